@@ -1,0 +1,10 @@
+mod Fronts
+mod Pieces
+mod Words
+mod Decimals
+mod Returns
+mod Growth
+mod Classes
+mod Cuts
+mod Chunks
+mod Steps

@@ -1,0 +1,54 @@
+-- The causes for which a domain is not built, as the table of refusals lists them.
+-- A refusal is reported by its number and its values. The first cause that applies is the one reported.
+use mathlib.Core.Bool.{cond}
+use mathlib.Core.List.{List, [], _∷_}
+use Prim.Native.Nat.{ℕ, _^_, min}
+use lib.Dec.{leb, ltb}
+use Rattle.std.specs.declared.option.Option.{Option}
+use Rattle.std.specs.declared.option.Option.the-variants.{Some, None}
+use Rattle.std.specs.declared.result.Result.{Result}
+use Rattle.std.specs.declared.result.Result.the-variants.{Ok, Err}
+use Rattle.skip_domain.specs.Degrees.{dimensions}
+use Rattle.skip_domain.specs.declared.fault.SkipDomainError.{SkipDomainError}
+use Rattle.skip_domain.specs.declared.fault.SkipDomainError.the-variants.{EmptyExtension, ExtensionTooWide, ExtensionBeyondLimit, SubspaceTooNarrow}
+
+-- the number of each cause in the table
+abbrev pub numberOf : SkipDomainError → ℕ
+numberOf (EmptyExtension s e) = 1
+numberOf (ExtensionTooWide e l) = 2
+numberOf (ExtensionBeyondLimit e) = 3
+numberOf (SubspaceTooNarrow s) = 4
+
+-- the values that it returns, in the table's order
+abbrev pub valuesOf : SkipDomainError → List ℕ
+valuesOf (EmptyExtension s e) = s ∷ e ∷ []
+valuesOf (ExtensionTooWide e l) = e ∷ l ∷ []
+valuesOf (ExtensionBeyondLimit e) = e ∷ []
+valuesOf (SubspaceTooNarrow s) = s ∷ []
+
+-- a refusal as it is reported: its number and its values
+abbrev pub Report : Type 0
+Report = ℕ × List ℕ
+
+-- what a call that may refuse reports
+abbrev pub reported : {X : Type 0} → Result X SkipDomainError → Option Report
+reported (Ok x) = None
+reported (Err f) = Some (numberOf f, valuesOf f)
+
+-- the widest extension: one basis element for each dimension, of which a field of 2 ^ b bits has
+-- 2 ^ b, and no more than 63, so that a word counts its points
+abbrev pub limit : ℕ → ℕ
+limit b = min (2 ^ b) 63
+
+-- the causes of construction over a field of 2 ^ b bits, at a subspace of s dimensions in an
+-- extension of e, in their order
+abbrev pub construction : ℕ → ℕ → ℕ → Option Report
+construction b s e =
+    cond (leb e s) (Some (1, s ∷ e ∷ []))
+    (cond (ltb (limit b) e) (Some (2, e ∷ limit b ∷ []))
+    (cond (ltb 16 e) (Some (3, e ∷ []))
+    (cond (ltb s 3) (Some (4, s ∷ [])) None)))
+
+-- the same for the smallest domain that carries degree d; a degree of 0 gives the first cause
+abbrev pub constructionFor : ℕ → ℕ → ℕ → Option Report
+constructionFor b s d = elim (dimensions s d) [ None ↦ Some (1, s ∷ s ∷ []) | Some e ↦ construction b s e ]
