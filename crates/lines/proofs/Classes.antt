@@ -1,6 +1,6 @@
 -- What a buffer that makes a line tells of its class.
 use mathlib.Core.Path.{_≡_, refl, sym, ap, _∙_}
-use mathlib.Core.Bool.{Bool, true, false, cond, _||_}
+use mathlib.Core.Bool.{Bool, true, false, _||_}
 use mathlib.Core.List.{List}
 use Prim.Native.Nat.{ℕ, _<_, _≤_}
 use native.Mathlib.Omega.{arith}
@@ -10,7 +10,7 @@ use Rattle.std.proofs.shelf.Lists.{getD-take, take-all}
 use Rattle.std.proofs.shelf.Tests.{or-right, and-parts, leb-true, cond-true, cond-false}
 use Rattle.lines.specs.declared.line.LineBuffer.{LineBuffer}
 use Rattle.lines.specs.Pieces.{every}
-use Rattle.lines.specs.Lines.{text-of, not-readable, space, printable, idle, readable, classified}
+use Rattle.lines.specs.Lines.{text-of, not-readable, space, printable, idle, is-readable, classified}
 use Rattle.lines.specs.Buffers.{Makes}
 
 or-false : (a b : Bool) → b ≡ false → (a || b) ≡ a
@@ -28,6 +28,6 @@ module _ {b : LineBuffer} {l : List ℕ} (m : Makes b l) where
 
   pub text-class : false ≡ idle l → b .readable ≡ true → text-of (take (b .len) (b .bytes)) ≡ classified l
   text-class i r =
-      let fits : readable l ≡ true = sym (m .fit) ∙ r in
+      let fits : is-readable l ≡ true = sym (m .fit) ∙ r in
       let short : length l ≤ 16384 = leb-true (length l) 16384 (and-parts (every printable l) (leb (length l) 16384) fits .1) in
-      ap text-of (m .front ∙ take-all 16384 l short) ∙ sym (cond-true (readable l) (text-of l) not-readable fits) ∙ sym (cond-false (idle l) _ _ (sym i))
+      ap text-of (m .front ∙ take-all 16384 l short) ∙ sym (cond-true (is-readable l) (text-of l) not-readable fits) ∙ sym (cond-false (idle l) _ _ (sym i))

@@ -1,6 +1,6 @@
 -- Where a line ends in an input.
 use mathlib.Core.Path.{_≡_, refl, sym, ap, subst, _∙_}
-use mathlib.Core.Bool.{Bool, true, false, cond, not}
+use mathlib.Core.Bool.{Bool, true, false, cond}
 use mathlib.Core.List.{List, [], _∷_, _++_, append-assoc}
 use Prim.Native.Nat.{ℕ, _+_, _<_, _≤_}
 use native.Mathlib.Omega.{arith}
@@ -12,10 +12,10 @@ use Rattle.std.specs.Options
 use Rattle.std.specs.declared.option.Option.{Option}
 use Rattle.std.specs.declared.option.Option.the-variants.{Some, None}
 use Rattle.std.specs.shelf.Lists.{leading}
-use Rattle.lines.specs.Pieces.{every, some, other, onto, pieces}
+use Rattle.lines.specs.Pieces.{every, other, onto, pieces}
 use Rattle.lines.specs.Lines.{without-cr, only-line, lines-in, lines-of, lf-free, before-lf, through-lf, Ends-line}
 use Rattle.lines.proofs.Fronts.{every-whole, every-broken, every-front, every-append, leading-every, leading-stop}
-use Rattle.lines.proofs.Pieces.{later, pieces-front}
+use Rattle.lines.proofs.Pieces.{pieces-front}
 
 pieces-other : (s b : ℕ) (l : List ℕ) → other s b ≡ true → pieces s (b ∷ l) ≡ onto b (pieces s l)
 pieces-other s b l h = cond-false (eqb b s) _ _ (not-true _ h)

@@ -1,17 +1,17 @@
 -- What a buffer knows of a line when one more byte comes.
 use mathlib.Core.Path.{_≡_, refl, sym, ap, _∙_}
-use mathlib.Core.Bool.{Bool, true, false, cond, _&&_}
+use mathlib.Core.Bool.{Bool, true, false, _&&_}
 use mathlib.Core.List.{List, [], _∷_, _++_}
-use Prim.Native.Nat.{ℕ, suc, _+_, _-_, _<_, _≤_, min}
+use Prim.Native.Nat.{ℕ, _+_, _-_, _<_, _≤_, min}
 use native.Mathlib.Omega.{arith}
 use lib.Dec.{eqb, leb, ltb}
-use lib.ListN.{length, getD, take, set}
+use lib.ListN.{length, take, set}
 use Rattle.std.proofs.shelf.Lists.{length-push, take-all, take-more-set, take-append-le}
 use Rattle.std.proofs.shelf.Tests.{ltb-true, le-leb}
 use Rattle.std.proofs.shelf.Ways.{tells}
 use Rattle.lines.specs.declared.line.LineBuffer.{LineBuffer}
 use Rattle.lines.specs.Pieces.{every}
-use Rattle.lines.specs.Lines.{space, printable, readable}
+use Rattle.lines.specs.Lines.{space, printable, is-readable}
 use Rattle.lines.specs.Buffers.{Makes}
 
 and-assoc : (a b c : Bool) → (a && (b && c)) ≡ ((a && b) && c)
@@ -37,14 +37,14 @@ front-push bytes l len b full h front count =
 pub front-full : (l : List ℕ) (len b : ℕ) → 16384 ≤ len → len ≡ min 16384 (length l) → take 16384 l ≡ take 16384 (l ++ b ∷ [])
 front-full l len b h count = let long : 16384 ≤ length l = omega arith in sym (take-append-le 16384 l (b ∷ []) long)
 
-room : (e l p k : Bool) → (k ≡ true → l ≡ true) → (((e && l) && p) && k) ≡ ((e && p) && k)
+room : (e l p k : Bool) → (k ≡ true → l ≡ true) → ((e && l) && (p && k)) ≡ ((e && p) && k)
 room true true p k h = refl
 room true false true true h = h refl
 room true false true false h = refl
 room true false false k h = refl
 room false l p k h = refl
 
-readable-push : (l : List ℕ) (len b : ℕ) → len ≡ min 16384 (length l) → ((readable l && printable b) && ltb len 16384) ≡ readable (l ++ b ∷ [])
+readable-push : (l : List ℕ) (len b : ℕ) → len ≡ min 16384 (length l) → (is-readable l && (printable b && ltb len 16384)) ≡ is-readable (l ++ b ∷ [])
 readable-push l len b count =
     let one : length (l ++ b ∷ []) ≡ length l + 1 = length-push l b in
     let here : ltb len 16384 ≡ leb (length (l ++ b ∷ [])) 16384 = grind (arith, tells) in
@@ -63,6 +63,6 @@ module _ {b : LineBuffer} {l : List ℕ} (m : Makes b l) (v : ℕ) where
   pub blank-push : (b .spaces && eqb v 32) ≡ every space (l ++ v ∷ [])
   blank-push = ap (λ t. t && eqb v 32) (m .blank) ∙ sym (every-push space l v)
 
-  pub fit-push : (p : Bool) → p ≡ printable v → ((b .readable && p) && ltb (b .len) 16384) ≡ readable (l ++ v ∷ [])
+  pub fit-push : (p : Bool) → p ≡ printable v → (b .readable && (p && ltb (b .len) 16384)) ≡ is-readable (l ++ v ∷ [])
   fit-push p e =
-      ap (λ t. (t && p) && ltb (b .len) 16384) (m .fit) ∙ ap (λ t. (readable l && t) && ltb (b .len) 16384) e ∙ readable-push l (b .len) v (m .count)
+      ap (λ t. t && (p && ltb (b .len) 16384)) (m .fit) ∙ ap (λ t. is-readable l && (t && ltb (b .len) 16384)) e ∙ readable-push l (b .len) v (m .count)

@@ -1,7 +1,7 @@
 mod Fronts
 mod Pieces
 mod Words
-mod Decimals
+mod Numerals
 mod Returns
 mod Growth
 mod Classes

@@ -8,7 +8,8 @@ use Rattle.lines.specs.declared.source.LineSource.{LineSource}
 use Rattle.lines.specs.Pieces.{some, other}
 use Rattle.lines.specs.Lines.{without-cr, only-line, lines-of, lf-free}
 use Rattle.lines.specs.Buffers.{Makes, Holds}
-use Rattle.lines.specs.Sources.{unread, May-come, Took, Refilled, Next, Went}
+use Rattle.lines.specs.Sources.{unread, May-come, Next, Went}
+use Rattle.lines.specs.Steps.{Took, Refilled}
 use Rattle.lines.proofs.Fronts.{every-append}
 use Rattle.lines.proofs.Cuts.{lines-cut, lines-free}
 

@@ -7,7 +7,6 @@ use native.Mathlib.Numerals.{one-add}
 use native.Mathlib.Omega.{arith}
 use lib.Dec.{eqb}
 use lib.ListN.{take, drop}
-use Rattle.std.proofs.shelf.Tests.{both-ways}
 use Rattle.std.specs.shelf.Lists.{kept-by, leading}
 use Rattle.lines.specs.Pieces.{some, other, onto, pieces}
 use Rattle.lines.specs.Words.{words, after-spaces, first-word, after-word}

@@ -7,7 +7,7 @@ use Rattle.lines.specs.declared.line.Line.{Line}
 use Rattle.lines.specs.declared.line.Line.the-variants.{Passed, Unreadable, Text}
 use Rattle.lines.specs.declared.line.LineBuffer.{LineBuffer}
 use Rattle.lines.specs.Pieces.{every}
-use Rattle.lines.specs.Lines.{Class, passed-over, not-readable, text-of, space, readable, ends-in-cr, without-cr}
+use Rattle.lines.specs.Lines.{Class, passed-over, not-readable, text-of, space, is-readable, ends-in-cr, without-cr}
 
 abbrev pub shown : Line → Class
 shown Passed = passed-over
@@ -19,7 +19,7 @@ pub record Makes (b : LineBuffer) (l : List ℕ) : Type 0 where
   pub front : take (b .len) (b .bytes) ≡ take 16384 l
   pub count : b .len ≡ min 16384 (length l)
   pub blank : b .spaces ≡ every space l
-  pub fit : b .readable ≡ readable l
+  pub fit : b .readable ≡ is-readable l
 
 -- b has taken the bytes l of a line that may go on: a carriage return at their end waits for the byte after it
 pub record Holds (b : LineBuffer) (l : List ℕ) : Type 0 where

@@ -1,6 +1,7 @@
 pub mod Pieces
 pub mod Words
-pub mod Decimals
+pub mod Numerals
 pub mod Lines
 pub mod Buffers
 pub mod Sources
+pub mod Steps

@@ -26,11 +26,11 @@ printable b = leb 32 b && leb b 126
 abbrev pub idle : List ℕ → Bool
 idle l = eqb (getD l 0 0) 35 || every space l
 
-abbrev pub readable : List ℕ → Bool
-readable l = every printable l && leb (length l) 16384
+abbrev pub is-readable : List ℕ → Bool
+is-readable l = every printable l && leb (length l) 16384
 
 abbrev pub classified : List ℕ → Class
-classified l = cond (idle l) passed-over (cond (readable l) (text-of l) not-readable)
+classified l = cond (idle l) passed-over (cond (is-readable l) (text-of l) not-readable)
 
 abbrev pub ends-in-cr : List ℕ → Bool
 ends-in-cr l = eqb (getD l (length l - 1) 0) 13
@@ -64,7 +64,8 @@ before-lf l = take (leading (other 10) l) l
 abbrev pub through-lf : List ℕ → Option ℕ
 through-lf l = cond (lf-free l) None (Some (leading (other 10) l + 1))
 
--- what a line begins with, then an input: the line is whole where the input has a line feed, after n bytes
+-- what the input does to a line that began with the bytes l: its first n bytes end the line and the others are of later lines,
+-- or it has no line feed, and the line goes on
 abbrev pub Ends-line : List ℕ → Option ℕ → Type 0
 Ends-line input None = (l : List ℕ) → lf-free l ≡ true → lines-of (l ++ input) ≡ only-line (l ++ input)
 Ends-line input (Some n) = (l : List ℕ) → lf-free l ≡ true → lines-of (l ++ input) ≡ without-cr (l ++ before-lf input) ∷ lines-of (drop n input)

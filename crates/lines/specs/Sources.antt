@@ -7,8 +7,8 @@ use lib.ListN.{take, drop}
 use Rattle.std.specs.declared.result.Result.{Result}
 use Rattle.std.specs.declared.result.Result.the-variants.{Ok, Err}
 use Rattle.lines.specs.declared.source.LineSource.{LineSource}
-use Rattle.lines.specs.Lines.{lines-of, lf-free}
-use Rattle.lines.specs.Buffers.{Makes, Holds}
+use Rattle.lines.specs.Lines.{lines-of}
+use Rattle.lines.specs.Buffers.{Makes}
 
 -- the bytes that were read and are not yet part of a line
 abbrev pub unread : LineSource → List ℕ
@@ -43,18 +43,3 @@ Stepped s t more = (came : List ℕ) × May-come s came × Went (unread s ++ cam
 abbrev pub counted : {E : Type 0} → ℕ → Result Bool E → ℕ
 counted n (Ok more) = n + cond more 1 0
 counted n (Err e) = n
-
--- the bytes p were taken from s for its line, to which t has them added
-pub record Taken (s t : LineSource) (p : List ℕ) : Type 0 where
-  pub free : lf-free p ≡ true
-  pub holds : (l : List ℕ) → Holds (s .buffer) l → Holds (t .buffer) (l ++ p)
-
--- the line ended at a line feed, or nothing is left
-abbrev pub Took : LineSource → LineSource → Bool → Type 0
-Took s t true = (p : List ℕ) × (unread s ≡ p ++ 10 ∷ unread t) × Taken s t p
-Took s t false = (unread t ≡ []) × Taken s t (unread s)
-
--- there is a next chunk, or the input has ended
-abbrev pub Refilled : LineSource → LineSource → Bool → Type 0
-Refilled s t true = s .ended ≡ false
-Refilled s t false = (t .ended ≡ true) × (unread s ≡ [] → unread t ≡ [])

@@ -1,6 +1,6 @@
-// Lines of bytes, their words and their decimal numbers.
-pub mod decimal;
+// Lines of bytes, their words and their numbers.
 pub mod line;
+pub mod numeral;
 pub mod source;
 #[cfg(test)]
 mod tests;

@@ -1,6 +1,7 @@
-use crate::decimal::decimal;
+// The rules on examples.
 use crate::line::Line;
 use crate::line::LineBuffer;
+use crate::numeral::decimal;
 use crate::word::split_word;
 use std::test::*;
 

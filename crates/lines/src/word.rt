@@ -4,6 +4,7 @@ ghost use mathlib.Core.List.{[], _∷_};
 ghost use lib.Dec.{eqb};
 ghost use Rattle.std.specs.Options.{Cases};
 ghost use Rattle.std.specs.shelf.Lists.{leading};
+ghost use Rattle.std.specs.shelf.Text.{sameBytes};
 ghost use Rattle.lines.specs.Pieces.{other};
 ghost use Rattle.lines.specs.Words.{words, first-word, after-word};
 
@@ -42,4 +43,17 @@ pub fn split_word(text: &[u8]) -> Option<(&[u8], &[u8])>
         return None;
     }
     Some(rest.split_at(length))
+}
+
+fn same(a: &[u8], b: &[u8]) -> bool
+    ensures { λ r. ⌜ r ≡ sameBytes (now (a .entry)) (now (b .entry)) ⌝ }
+{
+    a == b
+}
+
+// Whether `word` is that name.
+pub fn is_word(word: &[u8], name: &str) -> bool
+    ensures { λ r. ⌜ r ≡ sameBytes (now (word .entry)) (now (name .entry)) ⌝ }
+{
+    same(word, name.as_bytes())
 }

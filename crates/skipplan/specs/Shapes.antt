@@ -4,7 +4,7 @@ use mathlib.Core.List.{List, [], _∷_}
 use Prim.Native.Nat.{ℕ}
 use Rattle.std.specs.declared.option.Option.{Option}
 use Rattle.std.specs.declared.option.Option.the-variants.{Some, None}
-use Rattle.lines.specs.Decimals.{decimal-of}
+use Rattle.lines.specs.Numerals.{decimal-of}
 use Rattle.lines.specs.Words.{words}
 use Rattle.skip_domain.specs.declared.plan.Shape.{Shape}
 

@@ -1,7 +1,7 @@
 // A shape as a line writes it.
 ghost use mathlib.Core.Path.{_≡_};
 ghost use Rattle.skipplan.specs.Shapes.{shapeOf};
-use lines::decimal::decimal;
+use lines::numeral::decimal;
 use lines::word::split_word;
 use skip_domain::plan::Shape;
 

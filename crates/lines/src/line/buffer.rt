@@ -34,8 +34,8 @@ impl LineBuffer {
         ensures makes { λ _. ⌜ ((l : List ℕ) → Makes (now (self .entry)) l → Makes (now (self .exit)) (l ++ byte ∷ [])) ⌝ }
         ensures held { λ _. ⌜ now (self .exit) .held ≡ now (self .entry) .held ⌝ }
     {
-        self.spaces = self.spaces & (byte == b' ');
-        self.readable = self.readable & is_printable(byte) & (self.len < LINE_LIMIT);
+        self.spaces &= byte == b' ';
+        self.readable &= is_printable(byte) & (self.len < LINE_LIMIT);
         if self.len < LINE_LIMIT {
             self.bytes[self.len] = byte;
             self.len += 1;

@@ -1,12 +1,13 @@
 // How a source reads, and hands out its lines.
 ghost use mathlib.Core.Path.{_≡_};
-ghost use mathlib.Core.Bool.{true, false};
+ghost use mathlib.Core.Bool.{false};
 ghost use mathlib.Core.List.{List, []};
 ghost use Prim.Native.Nat.{ℕ};
 ghost use Rattle.std.specs.Results.{Cases};
 ghost use Rattle.lines.specs.Lines.{classified};
 ghost use Rattle.lines.specs.Buffers.{shown, Makes, Holds};
-ghost use Rattle.lines.specs.Sources.{unread, Took, Refilled, Stepped, counted};
+ghost use Rattle.lines.specs.Sources.{unread, Stepped, counted};
+ghost use Rattle.lines.specs.Steps.{Took, Refilled};
 use super::CHUNK;
 use super::LineSource;
 use crate::line::Line;

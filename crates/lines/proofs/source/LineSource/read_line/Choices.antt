@@ -1,4 +1,3 @@
-use mathlib.Core.Path.{_≡_}
 use Rattle.lines.proofs.Steps.{Reading}
 use Rattle.lines.proofs.source.LineSource.read_line.Given as given
 

@@ -1,0 +1,9 @@
+use Rattle.algebra.proofs.Embeddings.{embedded-points-spanned}
+use Rattle.algebra.proofs.Spans.{spanned-vanishes}
+use Rattle.algebra.proofs.vanishing_in_extensions.Needs as need
+
+pub returns : need.returns
+returns g c e h =
+    let L = g .F·Field·met .laws in
+    let M = g .E·Field·met .laws in
+    spanned-vanishes M (embedded-points-spanned L M h (g .F·TowerLevel·met .tower))

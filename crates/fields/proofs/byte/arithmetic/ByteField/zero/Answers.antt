@@ -1,0 +1,6 @@
+use mathlib.Core.Path.{refl}
+use Rattle.fields.proofs.ByteLaws.{byte-is}
+use Rattle.fields.proofs.byte.arithmetic.ByteField.zero.Needs as need
+
+pub returns : need.returns
+returns c = byte-is _ 0 refl
