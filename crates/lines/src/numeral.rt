@@ -6,8 +6,8 @@ ghost use lib.Dec.{ltb};
 ghost use Rattle.std.specs.declared.option.Option.the-variants.{Some, None};
 ghost use Rattle.lines.specs.Numerals.{worth, digit, numeral-of, decimal-of, hexadecimal-of};
 
-// What a digit is worth, and 16 for a byte that is no digit.
-fn digit_worth(byte: u8) -> u8
+// What a digit of base sixteen is worth, in either case, and 16 for a byte that is no digit.
+pub fn digit_worth(byte: u8) -> u8
     ensures { λ r. ⌜ r ≡ worth byte ⌝ }
 {
     match byte {

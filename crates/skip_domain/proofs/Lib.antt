@@ -1,1 +1,5 @@
 pub mod Degrees
+pub mod Places
+pub mod Spans
+pub mod Fills
+pub mod Constructions

@@ -1,4 +1,4 @@
 pub mod Degrees
 pub mod Refusals
-pub mod Rules
 pub mod Plans
+pub mod Domains

@@ -10,8 +10,8 @@ use Rattle.std.specs.declared.result.Result.{Result}
 use Rattle.std.specs.declared.result.Result.the-variants.{Ok, Err}
 use Rattle.skip_domain.specs.Degrees.{dimensions, admits}
 use Rattle.skip_domain.specs.Refusals.{limit, numberOf, valuesOf, constructionFor}
-use Rattle.skip_domain.specs.Rules.{coded, arityOf, degreeOf}
-use Rattle.skip_domain.specs.declared.composition.Rule.{Rule}
+use Rattle.skip_composition.specs.Rules.{coded, arityOf, degreeOf}
+use Rattle.skip_composition.specs.declared.rule.Rule.{Rule}
 use Rattle.skip_domain.specs.declared.plan.Lengths.{Lengths}
 use Rattle.skip_domain.specs.declared.plan.Plan.{Plan}
 use Rattle.skip_domain.specs.declared.plan.PlanError.{PlanError}

@@ -1,7 +1,9 @@
-// Where the round polynomial of a univariate-skip round lives.
-// Today the numbers alone: dimensions, degrees, the rules and the plan of a shape.
-pub mod composition;
+// Where the round polynomial of a univariate-skip round lives: dimensions, degrees, the domain over a
+// field, the rules and the plan of a shape.
+pub mod degree;
 pub mod dimensions;
 pub mod domain;
 pub mod fault;
 pub mod plan;
+mod points;
+pub mod vanishing;

@@ -5,13 +5,13 @@ ghost use Rattle.std.specs.Results.{Cases};
 ghost use Rattle.std.specs.Vec.{made};
 ghost use Rattle.skip_domain.specs.Degrees.{Fits};
 ghost use Rattle.skip_domain.specs.Plans.{Free, lengthsFor, planFor, scratchFor, outcome, planning};
-ghost use Rattle.skip_domain.specs.Rules.{degreeOf};
+ghost use Rattle.skip_composition.specs.Rules.{degreeOf};
 ghost use Rattle.skip_domain.specs.declared.plan.PlanError.the-variants.{Domain};
-use crate::composition::Rule;
+use crate::degree::admits_degree;
+use crate::degree::points;
 use crate::dimensions::Dimensions;
-use crate::domain::admits_degree;
-use crate::domain::points;
 use crate::fault::SkipDomainError;
+use skip_composition::rule::Rule;
 
 // What a planner asks about: the dimensions that are skipped, the degree that sizes the domain,
 // and the code of the rule.

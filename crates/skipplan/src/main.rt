@@ -92,6 +92,16 @@ fn print_fault<W: Write>(out: &mut W, number: u8, fault: SkipDomainError) -> io:
                 "  refused {number} SubspaceTooNarrow: log_size {log_size}"
             )
         }
+        SkipDomainError::BufferLenMismatch {
+            place,
+            expected,
+            actual,
+        } => {
+            writeln!(
+                out,
+                "  refused {number} BufferLenMismatch: place {place}, expected {expected}, actual {actual}"
+            )
+        }
     }
 }
 

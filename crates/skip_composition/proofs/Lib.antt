@@ -1,0 +1,4 @@
+pub mod Values
+pub mod Declarations
+pub mod Gates
+pub mod Expansions

@@ -1,0 +1,6 @@
+use Rattle.skip_composition.specs.Polynomials.{operands}
+use Rattle.skip_composition.proofs.Expansions.{boolean-value}
+use Rattle.skip_composition.proofs.rule.boolean.Needs as need
+
+pub returns : need.returns
+returns g c = let e = boolean-value (g .E·Field·met .laws) (operands (g .E·Field .ops) (c .args .values .now)) in cc

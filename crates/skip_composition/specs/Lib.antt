@@ -1,0 +1,5 @@
+pub mod Polynomials
+pub mod Declarations
+pub mod Gates
+pub mod Rules
+pub mod Theorems
