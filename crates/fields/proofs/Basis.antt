@@ -1,5 +1,5 @@
 -- A Cantor basis, element by element: what a loop over it needs.
-use Rattle.std.proofs.Common.{◌≡◌, ℕ, zero, suc, ◌+◌, ◌-◌, ◌<◌, Some, None, Option, sym, refl, ap, ◌∙◌, add-one, arith}
+use Rattle.std.proofs.Common.{◌≡◌, ℕ, zero, suc, ◌+◌, ◌-◌, ◌<◌, Some, None, Option, sym, ap, ◌∙◌, add-one, arith}
 use Rattle.fields.specs.Field.{Operations}
 use Rattle.fields.specs.Tower.{Level, solution, cantor}
 

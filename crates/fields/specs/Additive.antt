@@ -1,10 +1,10 @@
 -- Additive maps of bytes: a sum is an exclusive or, and a map is known by what it does to the monomials.
 use Rattle.std.specs.Prelude.{◌≡◌, ℕ, zero, suc, ◌/◌, ◌%◌, ◌^◌, ◌<◌, Bool, true, false, cond, ◌==◌, bit_xor, nat_eq, refl}
-use Rattle.std.proofs.Common.{sym, ap, ap₂, ◌∙◌, subst, arith, eqb→eq, pow_pos}
+use Rattle.std.proofs.Common.{sym, ap, ap₂, ◌∙◌, arith, eqb→eq, pow_pos}
 use Rattle.std.specs.Int.Bits.{xor_assoc, xor_self, xor_zero_r}
 use Rattle.std.proofs.lemmas.Nat.{xor_comm, xor_shr, xor_mod, xor_lt}
 use Rattle.fields.specs.Bytes.{bit_set, sum_bits, linear}
-use Rattle.fields.specs.Tests.{every, every_at}
+use Rattle.fields.specs.Tests.{every_at}
 
 abbrev pub Additive : (ℕ → ℕ) → Type 0
 Additive f = (m n : ℕ) → f (bit_xor m n) ≡ bit_xor (f m) (f n)

@@ -1,5 +1,5 @@
 -- The inverses of a whole list: none if an element is zero.
-use Rattle.std.specs.Prelude.{Bool, true, false, cond, ◌||◌, List, [], ◌∷◌, map, Some, None, Option}
+use Rattle.std.specs.Prelude.{Bool, false, cond, ◌||◌, List, [], ◌∷◌, map, Some, None, Option}
 use Rattle.std.specs.Option.{unwrap_or}
 use Rattle.fields.specs.Field.{Operations}
 

@@ -1,10 +1,10 @@
 -- The laws of the field of two elements and of its level, by cases.
-use Rattle.std.specs.Prelude.{◌≡◌, ℕ, zero, suc, ◌%◌, ◌<◌, Bool, true, false, not, is_some, Some, None, Option, ◌≢◌, bit_xor, nat_lt, refl}
+use Rattle.std.specs.Prelude.{◌≡◌, ℕ, zero, suc, ◌<◌, Bool, true, false, is_some, Some, None, ◌≢◌, bit_xor, nat_lt, refl}
 use Rattle.std.proofs.Common.{sym, ap, ◌∙◌, arith}
 use Rattle.std.proofs.lemmas.Bool.{le-ltb, false≢true}
 use Rattle.fields.specs.declared.bit.Bit.{Bit}
-use Rattle.fields.specs.Field.{Operations, FieldLaws}
-use Rattle.fields.specs.Tower.{Level, LevelLaws, Solves, cantor, solution, phi}
+use Rattle.fields.specs.Field.{FieldLaws}
+use Rattle.fields.specs.Tower.{LevelLaws, Solves, cantor, solution, phi}
 use Rattle.fields.specs.Bits.{bit, bit_ops, bit_level}
 
 at_both : (P : Bit → Type 0) → P (bit true) → P (bit false) → (x : Bit) → P x

@@ -1,5 +1,5 @@
 -- The field of two elements: a sum is an exclusive or, a product an and. Its top is 1.
-use Rattle.std.specs.Prelude.{Bool, true, false, cond, not, Some, None, Option}
+use Rattle.std.specs.Prelude.{Bool, true, false, cond, not, Some, None}
 use Rattle.fields.specs.declared.bit.Bit.{Bit}
 use Rattle.fields.specs.Field.{Operations}
 use Rattle.fields.specs.Tower.{Level}

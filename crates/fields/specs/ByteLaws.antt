@@ -4,13 +4,13 @@ use Rattle.std.proofs.Common.{sym, ap, ap₂, ◌∙◌, subst, inl, inr, mod-eq
 use Rattle.std.proofs.Math.Bridge.{le_prop}
 use Rattle.std.specs.Int.Bits.{xor_assoc, xor_self, xor_zero_r}
 use Rattle.std.proofs.lemmas.Nat.{xor_comm, xor_lt}
-use Rattle.std.proofs.lemmas.Bool.{lt-ltb, le-ltb, ltb-true, eq-eqb, eqb-true, cases_lt, and_parts, cond-true, cond-false}
+use Rattle.std.proofs.lemmas.Bool.{lt-ltb, le-ltb, eq-eqb, eqb-true, cases_lt, and_parts, cond-true, cond-false}
 use Rattle.std.specs.Option.{option_map}
 use Rattle.fields.specs.declared.byte.Byte.{Byte}
 use Rattle.fields.specs.Field.{FieldLaws}
 use Rattle.fields.specs.Tower.{LevelLaws, Solves, phi, cantor, solution}
-use Rattle.fields.specs.Bytes.{bilinear, inverts, passing, solves_byte, byte, byte_ops, byte_level, byte_basis, power}
-use Rattle.fields.specs.Tests.{every, every_at, truly}
+use Rattle.fields.specs.Bytes.{bilinear, passing, solves_byte, byte, byte_ops, byte_level, byte_basis, power}
+use Rattle.fields.specs.Tests.{every_at, truly}
 use Rattle.fields.specs.Passing.{passing_only, passing_none}
 use Rattle.fields.specs.ByteProduct.{product_right, product_lt, product_comm, product_assoc, product_one}
 use Rattle.fields.specs.ByteTables.{logs, logs_are, solutions, square_sum, square_sum_lt, solutions_solve, solutions_lt, solutions_only, basis_next, basis_lt}

@@ -1,7 +1,6 @@
 -- The product of bytes is bilinear, commutative and associative, and 1 is its unit.
-use Rattle.std.specs.Prelude.{◌≡◌, ℕ, ◌%◌, ◌^◌, ◌<◌, Bool, true, false, T, ◌==◌, nat_eq, nat_lt, refl}
-use Rattle.std.proofs.Common.{sym, ap, ap₂, ◌∙◌, subst, eqb→eq}
-use Rattle.std.specs.Int.Bits.{bit_xor}
+use Rattle.std.specs.Prelude.{◌≡◌, ℕ, ◌^◌, ◌<◌, Bool, T, ◌==◌, nat_eq, nat_lt, refl}
+use Rattle.std.proofs.Common.{ap, ◌∙◌, eqb→eq}
 use Rattle.std.proofs.lemmas.Bool.{ltb-true}
 use Rattle.fields.specs.Bytes.{linear, monomials, bilinear}
 use Rattle.fields.specs.Tests.{every, every_at, truly}

@@ -1,6 +1,6 @@
 -- Bytes as sums of monomials. Bit i stands for the product of those X_k whose bit k is set in i: 1, X0, X1, X0X1, X2, X0X2, X1X2, X0X1X2.
 -- X0² = X0 + 1, X1² = X1 + X0, X2² = X2 + X0X1. A sum is an exclusive or.
-use Rattle.std.specs.Prelude.{◌≡◌, ℕ, zero, suc, ◌+◌, ◌-◌, ◌/◌, ◌%◌, ◌^◌, ◌<◌, ◌≤◌, Bool, true, false, cond, ◌&&◌, List, [], ◌∷◌, Some, None, Option, ◌==◌, bit_xor}
+use Rattle.std.specs.Prelude.{◌≡◌, ℕ, zero, suc, ◌+◌, ◌-◌, ◌/◌, ◌%◌, ◌^◌, ◌<◌, ◌≤◌, Bool, cond, ◌&&◌, List, [], ◌∷◌, Some, None, Option, ◌==◌, bit_xor}
 use Rattle.std.proofs.Common.{mod-lt, lit<}
 use Rattle.std.specs.Option.{option_map}
 use Rattle.fields.specs.declared.byte.Byte.{Byte}

@@ -84,7 +84,7 @@ module _ {F : Type 0} {o : Operations F} {l : Level F} (L : FieldLaws o) (V : Le
       go : ((z : F) → phis o k z ≡ 𝟘 → (y : F) × (phi o y ≡ z)) → (phis o k x ≡ 𝟘) ⊎ (phis o k x ≡ 𝟙) → (v : F) × (u : F) × (phis o k v ≡ 𝟙) × (phi o u ≡ v) → (y : F) × (phi o y ≡ x)
       go before (inl z) s = before x z
       go before (inr z) (v, u, f, g) =
-          let below = before (x ⊕ v) (phis_sum R k x v ∙ ap₂ (λ a b. a ⊕ b) z f ∙ R.sum-self 𝟙) in
+          let below = before (x ⊕ v) (phis_sum R k x v ∙ ap₂ (λ a b. a ⊕ b) z f ∙ R.sum_self 𝟙) in
           (below.0 ⊕ u, phi_sum R below.0 u ∙ ap₂ (λ a b. a ⊕ b) below.1 g ∙ sum_self_right R x v)
 
   pub ends : Ends o l (width l)
@@ -94,11 +94,11 @@ module _ {F : Type 0} {o : Operations F} {l : Level F} (L : FieldLaws o) (V : Le
       R = L.ring
 
       near : (v : F) → cantor o l k ≡ Some v → (y : F) × (phi o y ≡ x ⊕ v)
-      near v f = kernel k (x ⊕ v) h (phis_sum R k x v ∙ ap₂ (λ a b. a ⊕ b) e (phis_cantor V.solving k v f) ∙ R.sum-self 𝟙)
+      near v f = kernel k (x ⊕ v) h (phis_sum R k x v ∙ ap₂ (λ a b. a ⊕ b) e (phis_cantor V.solving k v f) ∙ R.sum_self 𝟙)
 
       up : suc k < width l → (v : F) × (u : F) × (phis o k v ≡ 𝟙) × (phi o u ≡ v) → is_some (l.solve x) ≡ true
       up p (v, u, f, g) =
-          let y = kernel k (x ⊕ v) h (phis_sum R k x v ∙ ap₂ (λ a b. a ⊕ b) e f ∙ R.sum-self 𝟙) in
+          let y = kernel k (x ⊕ v) h (phis_sum R k x v ∙ ap₂ (λ a b. a ⊕ b) e f ∙ R.sum_self 𝟙) in
           solve_some V.solving x (y.0 ⊕ u) (phi_sum R y.0 u ∙ ap₂ (λ a b. a ⊕ b) y.1 g ∙ sum_self_right R x v)
 
       stop : (v : F) → cantor o l k ≡ Some v → width l ≤ suc k → (b : Bool) → is_some (l.solve x) ≡ b → b ≡ false

@@ -1,5 +1,5 @@
 -- What follows from the laws of a field, of a level and of an extension.
-use Rattle.std.specs.Prelude.{◌≡◌, ℕ, suc, ◌%◌, ◌<◌, ◌⊎◌, Some, ◌≢◌}
+use Rattle.std.specs.Prelude.{◌≡◌, ℕ, suc, ◌%◌, ◌⊎◌, Some, ◌≢◌}
 use Rattle.fields.specs.Field.{Operations}
 use Rattle.fields.specs.Tower.{Level, phi, cantor}
 use Rattle.fields.specs.Extension.{Embedding}

@@ -1,8 +1,8 @@
 -- A field extends itself, and the consequences of an extension's laws.
 use Rattle.std.specs.Prelude.{◌≡◌, ◌⊎◌, Some, None, Option, ◌≢◌, refl}
-use Rattle.std.proofs.Common.{sym, ap, ap₂, ◌∙◌, inl, inr}
-use Rattle.fields.specs.Field.{Operations, Ring, FieldLaws}
-use Rattle.fields.specs.Extension.{Embedding, Keeps, Lies, ExtensionLaws, itself}
+use Rattle.std.proofs.Common.{sym, ap, ◌∙◌, inl, inr}
+use Rattle.fields.specs.Field.{Operations, FieldLaws}
+use Rattle.fields.specs.Extension.{Embedding, Lies, ExtensionLaws, itself}
 use Rattle.fields.specs.Rings.{same_from_sum, zero_product}
 use Rattle.fields.specs.Fields.{same_or_not}
 

@@ -2,9 +2,9 @@
 use Rattle.std.specs.Prelude.{◌≡◌, Bool, true, false, ◌⊎◌, [], ◌∷◌, Some, ◌≢◌, refl}
 use Rattle.std.proofs.Common.{sym, ap, ◌∙◌, inl, inr}
 use Rattle.std.proofs.lemmas.Bool.{true≢false}
-use Rattle.fields.specs.Field.{Operations, Ring, FieldLaws}
+use Rattle.fields.specs.Field.{Operations, FieldLaws}
 use Rattle.fields.specs.Tower.{phi}
-use Rattle.fields.specs.Rings.{product_zero, zero_product, same_from_sum}
+use Rattle.fields.specs.Rings.{zero_product, same_from_sum}
 use Rattle.fields.specs.Solver.{by_normal_form}
 use Rattle.fields.specs.Solver.Term.{var, unit, plus, times}
 

@@ -1,5 +1,5 @@
 -- Consequences of a level's laws.
-use Rattle.std.specs.Prelude.{◌≡◌, ◌%◌, Bool, true, false, not, [], ◌∷◌, is_some, Some, None, Option, ◌≢◌, refl}
+use Rattle.std.specs.Prelude.{◌≡◌, ◌%◌, true, false, not, [], ◌∷◌, is_some, Some, None, Option, ◌≢◌, refl}
 use Rattle.std.proofs.Common.{sym, ap, ◌∙◌, subst}
 use Rattle.std.proofs.lemmas.Bool.{true≢false}
 use Rattle.fields.specs.Field.{Operations, Ring}

@@ -1,12 +1,12 @@
 -- The Cantor basis of pairs is twice as long as that of their halves, and the laws of their level.
-use Rattle.std.specs.Prelude.{◌≡◌, ℕ, zero, suc, ◌+◌, ◌-◌, ◌^◌, ◌<◌, ◌≤◌, Bool, true, false, ltb, ◌⊎◌, [], ◌∷◌, is_some, ◌≢◌, nat_lt, refl}
-use Rattle.std.proofs.Common.{sym, ap, ap₂, ◌∙◌, subst, inl, inr, suc-add, arith, pow_pos}
+use Rattle.std.specs.Prelude.{◌≡◌, ℕ, zero, suc, ◌+◌, ◌-◌, ◌<◌, ◌≤◌, true, ltb, ◌⊎◌, [], ◌∷◌, is_some, ◌≢◌, nat_lt, refl}
+use Rattle.std.proofs.Common.{sym, ap, ap₂, ◌∙◌, inl, inr, suc-add, arith, pow_pos}
 use Rattle.std.proofs.lemmas.Bool.{true≢false, lt-ltb, le-ltb, cases_lt}
 use Rattle.fields.specs.declared.pair.Pair.{Pair}
 use Rattle.fields.specs.Field.{Operations, Ring, FieldLaws}
 use Rattle.fields.specs.Tower.{Level, LevelLaws, phi, width}
 use Rattle.fields.specs.Pairs.{pair, pair_ops, pair_level}
-use Rattle.fields.specs.Rings.{sum_self_left, zero_sum}
+use Rattle.fields.specs.Rings.{sum_self_left}
 use Rattle.fields.specs.Solver.{by_normal_form}
 use Rattle.fields.specs.Solver.Term.{var, nil, unit, plus, times}
 use Rattle.fields.specs.Fields.{phi_root}

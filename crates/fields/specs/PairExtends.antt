@@ -3,8 +3,8 @@ use Rattle.std.specs.Prelude.{◌≡◌, Bool, true, false, cond, [], ◌∷◌,
 use Rattle.std.proofs.Common.{sym, ap, ◌∙◌, subst}
 use Rattle.std.proofs.lemmas.Bool.{true≢false, cond-true, cond-false}
 use Rattle.fields.specs.declared.pair.Pair.{Pair}
-use Rattle.fields.specs.Field.{Operations, Ring, FieldLaws}
-use Rattle.fields.specs.Extension.{Embedding, Keeps, Lies, ExtensionLaws}
+use Rattle.fields.specs.Field.{Operations, FieldLaws}
+use Rattle.fields.specs.Extension.{Embedding, Lies, ExtensionLaws}
 use Rattle.fields.specs.Pairs.{pair, pair_ops, pair_embedding}
 use Rattle.fields.specs.Solver.Term.{var, nil, times}
 use Rattle.fields.specs.PairLaws.{pair_eq, terms, X, pair_by_normal_form}

@@ -1,12 +1,11 @@
 -- The number form of pairs, low + high · 2^w over a level of w bits.
 use Rattle.std.specs.Prelude.{◌≡◌, ℕ, suc, ◌+◌, ◌-◌, ◌*◌, ◌/◌, ◌%◌, ◌^◌, ◌<◌, ◌≤◌, Bool, true, false, cond, is_some, Some, None, bit_xor, nat_lt, refl}
-use Rattle.std.proofs.Common.{sym, ap, ap₂, ◌∙◌, subst, add_comm, mul_assoc, mul_comm, pow-suc, mod-eq_of_lt, lt_of_lt_of_le, arith, pow-add, pow_pos, pow_mono, shr_lt}
+use Rattle.std.proofs.Common.{sym, ap, ap₂, ◌∙◌, subst, add_comm, mul_assoc, pow-suc, mod-eq_of_lt, lt_of_lt_of_le, arith, pow-add, pow_pos, pow_mono, shr_lt}
 use Rattle.std.proofs.Math.Nat.{div-eq_of_lt, add-mul-mod_self_right}
 use Rattle.std.proofs.Math.Arith.{digits_lt, digits_div, digits_mod}
 use Rattle.std.proofs.Math.Pow.{pow-lt, split}
 use Rattle.std.proofs.lemmas.Nat.{mod-pow-add, xor_block}
 use Rattle.std.proofs.lemmas.Bool.{true≢false, false≢true, ltb-true, ltb-false}
-use Rattle.fields.specs.declared.pair.Pair.{Pair}
 use Rattle.fields.specs.Field.{Operations}
 use Rattle.fields.specs.Tower.{Level, NumberForm, width}
 use Rattle.fields.specs.Pairs.{pair, pair_ops, pair_level}

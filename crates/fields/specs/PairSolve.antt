@@ -1,5 +1,5 @@
 -- The equation y² + y = t over pairs: solved, exactly where its high part is.
-use Rattle.std.specs.Prelude.{◌≡◌, ℕ, ◌%◌, Bool, true, false, not, [], ◌∷◌, is_some, Some, None, Option, refl}
+use Rattle.std.specs.Prelude.{◌≡◌, ◌%◌, true, not, [], ◌∷◌, is_some, Some, None, Option, refl}
 use Rattle.std.proofs.Common.{sym, ap, ◌∙◌, subst}
 use Rattle.std.proofs.lemmas.Bool.{false≢true}
 use Rattle.std.specs.Option.{option_map, option_or}
@@ -8,7 +8,7 @@ use Rattle.fields.specs.Field.{Operations, Ring}
 use Rattle.fields.specs.Tower.{Level, Solves, Solving, phi}
 use Rattle.fields.specs.Pairs.{pair, pair_ops, solve_low, pair_level}
 use Rattle.fields.specs.Solver.{by_normal_form}
-use Rattle.fields.specs.Solver.Term.{var, nil, unit, plus, times}
+use Rattle.fields.specs.Solver.Term.{var, unit, plus, times}
 use Rattle.fields.specs.PairLaws.{pair_eq, terms, X}
 use Rattle.fields.specs.PairForm.{join_even}
 

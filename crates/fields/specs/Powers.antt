@@ -1,9 +1,8 @@
 -- The powers of the generator of the byte field: exponents add, and 255 leads back to one. Products and inverses by exponents.
-use Rattle.std.specs.Prelude.{◌≡◌, ℕ, zero, suc, ◌+◌, ◌-◌, ◌<◌, ◌≤◌, true, cond, ◌⊎◌, Some, None, nat_lt, refl}
+use Rattle.std.specs.Prelude.{◌≡◌, ℕ, zero, suc, ◌+◌, ◌-◌, ◌<◌, ◌≤◌, cond, ◌⊎◌, Some, None, nat_lt}
 use Rattle.std.proofs.Common.{sym, ap, ap₂, ◌∙◌, inl, inr, suc-add, zero-add, arith, lit<}
-use Rattle.std.specs.Int.Bits.{bit_xor}
-use Rattle.std.proofs.lemmas.Bool.{lt-ltb, le-ltb, eq-eqb, eqb-true, cond-true, cond-false, cases_lt, true≢false, false≢true}
-use Rattle.fields.specs.Bytes.{bilinear, inverts, passing, solves_byte, power, Log}
+use Rattle.std.proofs.lemmas.Bool.{lt-ltb, le-ltb, eq-eqb, eqb-true, cond-true, cond-false, cases_lt}
+use Rattle.fields.specs.Bytes.{bilinear, inverts, passing, power, Log}
 use Rattle.fields.specs.Passing.{passing_only, passing_none}
 use Rattle.fields.specs.ByteProduct.{zero_times, times_zero, product_lt, product_comm, product_assoc, product_one}
 use Rattle.fields.specs.ByteTables.{power_255}

@@ -15,16 +15,16 @@ module _ {F : Type 0} {o : Operations F} (R : Ring o) where
   sum_left_comm x y z = sym (R.sum_assoc x y z) ∙ ap (λ w. w ⊕ z) (R.sum_comm x y) ∙ R.sum_assoc y x z
 
   pub sum_self_left : (x y : F) → x ⊕ (x ⊕ y) ≡ y
-  sum_self_left x y = sym (R.sum_assoc x x y) ∙ ap (λ w. w ⊕ y) (R.sum-self x) ∙ zero_sum y
+  sum_self_left x y = sym (R.sum_assoc x x y) ∙ ap (λ w. w ⊕ y) (R.sum_self x) ∙ zero_sum y
 
   pub sum_self_right : (x y : F) → x ⊕ y ⊕ y ≡ x
-  sum_self_right x y = R.sum_assoc x y y ∙ ap (λ w. x ⊕ w) (R.sum-self y) ∙ R.sum_zero x
+  sum_self_right x y = R.sum_assoc x y y ∙ ap (λ w. x ⊕ w) (R.sum_self y) ∙ R.sum_zero x
 
   pub one_product : (x : F) → 𝟙 ⊗ x ≡ x
   one_product x = R.product_comm 𝟙 x ∙ R.product_one x
 
   pub product_zero : (x : F) → x ⊗ 𝟘 ≡ 𝟘
-  product_zero x = ap (λ w. x ⊗ w) (sym (R.sum-self 𝟘)) ∙ R.product_sum x 𝟘 𝟘 ∙ R.sum-self (x ⊗ 𝟘)
+  product_zero x = ap (λ w. x ⊗ w) (sym (R.sum_self 𝟘)) ∙ R.product_sum x 𝟘 𝟘 ∙ R.sum_self (x ⊗ 𝟘)
 
   pub zero_product : (x : F) → 𝟘 ⊗ x ≡ 𝟘
   zero_product x = R.product_comm 𝟘 x ∙ product_zero x

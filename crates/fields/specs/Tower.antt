@@ -1,5 +1,5 @@
 -- A level of a tower of fields: elements as numbers, the equation y² + y = t, and the Cantor basis (Cantor 1989).
-use Rattle.std.specs.Prelude.{◌≡◌, ℕ, zero, suc, ◌%◌, ◌^◌, ◌<◌, Bool, not, is_some, Some, None, Option, ◌≢◌, bit_xor, nat_lt}
+use Rattle.std.specs.Prelude.{◌≡◌, ℕ, zero, suc, ◌%◌, ◌^◌, ◌<◌, not, is_some, Some, None, Option, ◌≢◌, bit_xor, nat_lt}
 use Rattle.fields.specs.Field.{Operations}
 
 -- the base 2 logarithm of the number of bits, an element's number, the element top, and the solutions of y² + y = t

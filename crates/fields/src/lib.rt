@@ -1,4 +1,6 @@
 // Finite fields of characteristic two: the interfaces with their laws, the fields, and batch inversion.
+#![tactic(auto)]
+
 pub mod batch;
 pub mod bit;
 pub mod byte;

@@ -1,6 +1,6 @@
 -- What the number of bits says, and why a degree that a domain admits fits it.
-use Rattle.std.proofs.Common.{◌≡◌, ℕ, zero, suc, ◌+◌, ◌-◌, ◌*◌, ◌/◌, ◌%◌, ◌^◌, ◌<◌, ◌≤◌, min, max, false, leb, ◌⊎◌, IfSome, Some, None, Option, unwrap_or, sym, refl, ap, ◌∙◌, subst, inl, inr, mul-le-mul_right, pow-suc, mul-suc, add-one, arith, pow_pos, pow_mono, pow-add}
-use native.Mathlib.Nat.{max-le, le-max_left, le-max_right}
+use Rattle.std.proofs.Common.{◌≡◌, ℕ, zero, suc, ◌+◌, ◌-◌, ◌*◌, ◌/◌, ◌%◌, ◌^◌, ◌<◌, ◌≤◌, max, false, leb, IfSome, Some, None, Option, unwrap_or, sym, ap, ◌∙◌, subst, inl, inr, mul-le-mul_right, pow-suc, mul-suc, add-one, arith, pow_pos, pow_mono, pow-add}
+use native.Mathlib.Nat.{max-le, le-max_left}
 use lib.Count.{count_leading_zeros, leading_unique}
 use Rattle.std.proofs.lemmas.Bool.{cases_lt, lt-leb}
 use Rattle.std.specs.Option.{SomeIff, option_map}

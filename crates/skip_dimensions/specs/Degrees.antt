@@ -2,7 +2,7 @@
 -- A rule of degree d over a subspace of s dimensions gives a round polynomial of degree at most
 -- d * (2 ^ s - 1). It lives on an extension of e dimensions, which has 2 ^ e points. This file says
 -- how many dimensions a degree needs above the subspace, and which degrees a domain admits.
-use Rattle.std.specs.Prelude.{◌≡◌, ℕ, zero, suc, ◌+◌, ◌-◌, ◌*◌, ◌/◌, ◌^◌, ◌<◌, ◌≤◌, min, max, Bool, false, cond, Some, None, Option, ◌==◌, nat_le}
+use Rattle.std.specs.Prelude.{ℕ, zero, suc, ◌+◌, ◌-◌, ◌*◌, ◌/◌, ◌^◌, ◌<◌, ◌≤◌, min, max, Bool, false, cond, Some, None, Option, ◌==◌, nat_le}
 use Rattle.std.specs.Option.{option_map, unwrap_or}
 
 -- the number of binary digits of n, of which the first argument is an upper bound

@@ -1,7 +1,7 @@
 // A skip round's domain: the subspace S on which the round polynomial vanishes, and the points of a
 // larger subspace outside S on which it is transmitted. Point j is the sum of the elements of the
 // Cantor basis at the set bits of j, so S has the indices below 2^log_size.
-ghost use Rattle.std.specs.Prelude.{◌≡◌, ℕ, ◌-◌, ◌^◌, ◌≤◌, true, length, take, drop, IfOk, Some, MatchOption, MatchResult, bit_xor};
+ghost use Rattle.std.specs.Prelude.{⊤, ◌≡◌, ℕ, ◌-◌, ◌^◌, ◌≤◌, true, length, take, drop, IfOk, Some, MatchOption, MatchResult, bit_xor};
 ghost use Rattle.fields.specs.Tower.{width};
 ghost use Rattle.algebra.specs.Interpolation.{Apart};
 ghost use Rattle.algebra.specs.Points.{point as cantor_point, nonzero_product};
@@ -17,6 +17,7 @@ use fields::tower::TowerLevel;
 use skip_dimensions::degree;
 use skip_dimensions::dimensions::Dimensions;
 use skip_dimensions::fault::{SkipDomainError, check_length};
+use std::alloc::AllocError;
 use std::marker::PhantomData;
 
 // The numbers of a domain over F, which has room for its points. The points themselves stand in
@@ -25,6 +26,16 @@ pub struct SkipDomain<F> {
     dimensions: Dimensions,
     field: PhantomData<F>,
     ghost room: { Room F (2 ^ dimensions.log_extended) },
+}
+
+impl<F> Clone for SkipDomain<F> {
+    ghost is_clone = { λ d c. c ≡ d };
+
+    ghost is_infallible = { λ _. ⊤ };
+
+    fn clone(&self) -> Result<SkipDomain<F>, AllocError> {
+        Ok(*self)
+    }
 }
 
 impl<F> Copy for SkipDomain<F> {}

@@ -12,7 +12,7 @@ more o v j r s t p q = q ∙ ap (λ x. o.sum x (cond (bit_set j r) (v r) o.zero)
 
 pub loop-r-preserved : goal.loop-r-preserved
 loop-r-preserved g c =
-    more g.F.Field.ops (basis_element_or_zero g.F.Field.ops g.F.TowerLevel.level) c.args.index c.loop-r.r c.loop-r.point _ c.loop-r.invariant c.with-bit-point.ensures
+    more g.F.Field.ops (basis_element_or_zero g.F.Field.ops g.F.TowerLevel.level) c.args.index c.loop-r.r c.loop-r.point _ c.loop-r.invariant c.with_bit-point.ensures
 
 pub returns : goal.returns
 returns g c =

@@ -1,6 +1,6 @@
 use Rattle.std.proofs.Common.{refl, arith}
 use Rattle.fields.proofs.Batches.{zero_found, zero_passed, none_zero, inverse_written, inverse_missing, all_inverted, answer_none, kept_all, answer_some, inverted_all}
-use Rattle.fields.proofs.batch.batch_multiplicative_inverse.Goals.{in-Some, in-default}
+use Rattle.fields.proofs.batch.batch_multiplicative_inverse.Goals.{in-Some, in_default}
 use Rattle.fields.proofs.batch.batch_multiplicative_inverse.Goals as goal
 
 pub returns-then-equals : goal.returns-then-equals
@@ -24,7 +24,7 @@ loop-k-preserved g c =
       p.invariant.0,
       elim c.match-inverse.branch [
         | in-Some w ↦ inverse_written o xs p.k p.values (omega arith) p.invariant.1 _ c.index-values-k.is _ c.match-inverse.values w.in-Some.ensures w.values-is
-        | in-default w ↦ inverse_missing o xs p.k p.values (omega arith) p.invariant.1 _ c.index-values-k.is c.match-inverse.values w.in-default.ensures w.values-is
+        | in_default w ↦ inverse_missing o xs p.k p.values (omega arith) p.invariant.1 _ c.index-values-k.is c.match-inverse.values w.in_default.ensures w.values-is
       ],
     )
 

@@ -6,9 +6,9 @@ use Rattle.skip_domain.proofs.domain.dimensions_over.Goals as goal
 
 pub returns : goal.returns
 returns g c =
-    let e = c.new.ensures.refused ∙ ap (λ (b : ℕ). construction b c.args.log-size c.args.log-extended) c.log_bits.ensures
-    ∙ construction_cut g.F.TowerLevel.level.log_bits c.args.log-size c.args.log-extended in
-    let d = construction_apart g.met.F.Field.laws g.met.F.TowerLevel.tower c.args.log-size c.args.log-extended c.new.result e c.new.ensures.dimensions in
+    let e = c.new.ensures.refused ∙ ap (λ (b : ℕ). construction b c.args.log_size c.args.log_extended) c.log_bits.ensures
+    ∙ construction_cut g.F.TowerLevel.level.log_bits c.args.log_size c.args.log_extended in
+    let d = construction_apart g.met.F.Field.laws g.met.F.TowerLevel.tower c.args.log_size c.args.log_extended c.new.result e c.new.ensures.dimensions in
     record {
       refused = e;
       dimensions = c.new.ensures.dimensions;

@@ -6,7 +6,7 @@ returns-in-Some g c =
     let L = g.met.F.Field.laws in
     let V = g.met.F.TowerLevel.tower in
     let k = c.in-Some.ensures in
-    product_added L V c.args.r c.vanishing-poly.result (vanishing_at_next L V c.args.r c.in-Some.v c.vanishing-poly.result k.element k.within c.vanishing-poly.ensures)
+    product_added L V c.args.r c.vanishing_poly.result (vanishing_at_next L V c.args.r c.in-Some.v c.vanishing_poly.result k.element k.within c.vanishing_poly.ensures)
 
 pub returns-in-None : goal.returns-in-None
 returns-in-None g c = product_added g.met.F.Field.laws g.met.F.TowerLevel.tower c.args.r c.one.result c.one.ensures

@@ -5,5 +5,5 @@ use Rattle.skip_domain.proofs.vanishing.fill_vanishing.Given as goal
 
 abbrev pub invariant-loop-block : goal.invariant-loop-block
 invariant-loop-block g l =
-    (k : ℕ) → k < l.block * 2 ^ l.log-size →
-    get_or l.output k g.F.Field.ops.zero ≡ vanishing_of g.F.Field.ops g.F.TowerLevel.level l.log-size (point g.F.Field.ops g.F.TowerLevel.level (2 ^ l.log-size + k))
+    (k : ℕ) → k < l.block * 2 ^ l.log_size →
+    get_or l.output k g.F.Field.ops.zero ≡ vanishing_of g.F.Field.ops g.F.TowerLevel.level l.log_size (point g.F.Field.ops g.F.TowerLevel.level (2 ^ l.log_size + k))

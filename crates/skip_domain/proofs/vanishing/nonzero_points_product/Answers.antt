@@ -8,6 +8,6 @@ loop-r-init g c = c.one-product.ensures ∙ sym (nonzero_points_one g.met.F.Fiel
 
 pub returns : goal.returns
 returns g c =
-    let all : c.loop-r.r ≡ c.args.log-size = omega arith in
+    let all : c.loop-r.r ≡ c.args.log_size = omega arith in
     let e = c.loop-r.invariant ∙ ap (λ (n : ℕ). nonzero_product g.F.Field.ops (2 ^ n) (point g.F.Field.ops g.F.TowerLevel.level)) all in
-    record { value = e; one = e ∙ nonzero_points_one g.met.F.Field.laws g.met.F.TowerLevel.tower c.args.log-size }
+    record { value = e; one = e ∙ nonzero_points_one g.met.F.Field.laws g.met.F.TowerLevel.tower c.args.log_size }

@@ -9,4 +9,4 @@ more : {F : Type 0} (o : Operations F) (k : ℕ) (x w p s : F) → w ≡ phi_pow
 more o k x w p s a b c = c ∙ ap (λ q. o.sum q w) b ∙ ap (phi o) a ∙ ap (λ n. phi_power o n x) (sym (add-one k))
 
 pub loop-k-preserved : goal.loop-k-preserved
-loop-k-preserved g c = more g.F.Field.ops c.loop-k.k _ c.loop-k.value _ _ c.loop-k.invariant c.product.ensures c.sum_value.ensures
+loop-k-preserved g c = more g.F.Field.ops c.loop-k.k _ c.loop-k.value _ _ c.loop-k.invariant c.product.ensures c.sum-value.ensures

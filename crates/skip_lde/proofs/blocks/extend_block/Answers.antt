@@ -5,7 +5,7 @@ use Rattle.std.proofs.lemmas.Nat.{mul-le}
 use Rattle.skip_lde.proofs.blocks.extend_block.Goals as goal
 
 -- the table has more than eight elements, so eight take less than what the table takes
-pub whole-as-slice·write-block : goal.whole-as-slice·write-block
-whole-as-slice·write-block g c =
+pub whole_as_slice-write_block : goal.whole_as_slice-write_block
+whole_as_slice-write_block g c =
     let m = mul-le 8 (size (lone g.row.F.mir)) (length c.args.table.now) (size (lone g.row.F.mir)) (omega arith) (omega arith) in
     omega arith

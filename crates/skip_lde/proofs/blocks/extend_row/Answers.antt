@@ -7,8 +7,8 @@ use Rattle.skip_lde.proofs.Sizes.{block_shifted, blocks_of, transmitted_below}
 use Rattle.skip_lde.proofs.Extensions.{entries_extend}
 use Rattle.skip_lde.proofs.blocks.extend_row.Goals as goal
 
-pub extend-block-requires : goal.extend-block-requires
-extend-block-requires g c =
+pub extend_block-requires : goal.extend_block-requires
+extend_block-requires g c =
     let s = c.args.dimensions.log_size in
     let e = c.args.dimensions.log_extended in
     let w = c.args.dimensions.within in
@@ -26,12 +26,12 @@ loop-q-preserved g c p h =
     let o = g.F.Field.ops in
     let q = c.loop-q.q in
     let n = c.loop-q.auto.out in
-    let out = c.extend-block.new.out in
+    let out = c.extend_block.new.out in
     elim (cases_lt p (8 * q)) [
-      | inl l ↦ c.extend-block.ensures.kept p l ∙ c.loop-q.invariant p l
+      | inl l ↦ c.extend_block.ensures.kept p l ∙ c.loop-q.invariant p l
       | inr l ↦
           let d : 8 * q + (p - 8 * q) ≡ p = omega arith in
-          ap (λ x. get_or out x o.zero) (sym d) ∙ c.extend-block.ensures.sums (p - 8 * q) (omega arith)
+          ap (λ x. get_or out x o.zero) (sym d) ∙ c.extend_block.ensures.sums (p - 8 * q) (omega arith)
           ∙ ap (λ x. entries_sum o x c.args.table.now c.args.row.now (8 * q + (p - 8 * q))) n
           ∙ ap (entries_sum o (length c.args.out.now) c.args.table.now c.args.row.now) d
     ]

@@ -11,11 +11,11 @@ loop-i-preserved g c j i h k =
     let l = g.F.TowerLevel.level in
     let s = c.args.dimensions.log_size in
     let e = c.args.dimensions.log_extended in
-    let after = c.write-lagrange.new.table in
+    let after = c.write_lagrange.new.table in
     elim (cases_lt i c.loop-i.i) [
-      | inl d ↦ c.write-lagrange.ensures.kept (2 ^ j) i d ∙ c.loop-i.invariant j i h d
+      | inl d ↦ c.write_lagrange.ensures.kept (2 ^ j) i d ∙ c.loop-i.invariant j i h d
       | inr d ↦
           let same : i ≡ c.loop-i.i = omega arith in
-          ap (λ x. get_or after (2 ^ j * transmitted s e + x) o.zero) same ∙ c.write-lagrange.ensures.values j h
+          ap (λ x. get_or after (2 ^ j * transmitted s e + x) o.zero) same ∙ c.write_lagrange.ensures.values j h
           ∙ ap (λ x. lagrange o (2 ^ s) (point o l) j (point o l (2 ^ s + x))) (sym same)
     ]

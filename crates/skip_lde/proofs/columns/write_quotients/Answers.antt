@@ -4,8 +4,8 @@ use Rattle.algebra.specs.Quotients.{quotient}
 use Rattle.skip_lde.proofs.Places.{columns_apart, bit_rows_apart, bit_row}
 use Rattle.skip_lde.proofs.columns.write_quotients.Goals as goal
 
-pub entry-place-to-requires : goal.entry-place-to-requires
-entry-place-to-requires g c = let b = bit_row c.loop-j.j c.loop-j-test.true in (omega arith, c.requires.place, c.requires.table.1)
+pub entry_place-to-requires : goal.entry_place-to-requires
+entry_place-to-requires g c = let b = bit_row c.loop-j.j c.loop-j-test.true in (omega arith, c.requires.place, c.requires.table.1)
 
 pub loop-j-preserved : goal.loop-j-preserved
 loop-j-preserved g c =
@@ -16,9 +16,9 @@ loop-j-preserved g c =
     let j = c.loop-j.j in
     let xs = c.loop-j.table in
     let y = c.divide.result in
-    let at = c.entry-place-to.result in
-    let to : at ≡ 2 ^ j * n + i = c.entry-place-to.ensures.0 ∙ ap (λ x. x * n + i) (bit_row j c.loop-j-test.true).0 in
-    let within : at < length xs = omega (arith, c.entry-place-to.ensures.1) in
+    let at = c.entry_place-to.result in
+    let to : at ≡ 2 ^ j * n + i = c.entry_place-to.ensures.0 ∙ ap (λ x. x * n + i) (bit_row j c.loop-j-test.true).0 in
+    let within : at < length xs = omega (arith, c.entry_place-to.ensures.1) in
     let f : ℕ → g.row.F.Denot = λ m. quotient o c.args.vanishing (o.sum c.args.t (get_or c.args.points.now m z)) in
     let p : j < length c.args.points.now = omega arith in
     let here : y ≡ f j = c.divide.ensures ∙ ap (quotient o c.args.vanishing) (c.sum.ensures ∙ ap (o.sum c.args.t) (get_or_read _ _ _ p c.index-points-j.is z)) in (

@@ -15,7 +15,7 @@ pub loop-r-preserved : goal.loop-r-preserved
 loop-r-preserved g c =
     let o = g.F.Field.ops in
     let h : c.loop-r.r < length c.args.basis.now = omega arith in
-    more o (basis_element_or_zero o g.F.TowerLevel.level) c.args.index c.loop-r.r c.loop-r.point _ _ c.loop-r.invariant (get_or_read _ _ _ h c.index-basis-r.is o.zero ∙ c.requires.basis c.loop-r.r h) c.with-bit-point.ensures
+    more o (basis_element_or_zero o g.F.TowerLevel.level) c.args.index c.loop-r.r c.loop-r.point _ _ c.loop-r.invariant (get_or_read _ _ _ h c.index-basis-r.is o.zero ∙ c.requires.basis c.loop-r.r h) c.with_bit-point.ensures
 
 pub returns : goal.returns
 returns g c =

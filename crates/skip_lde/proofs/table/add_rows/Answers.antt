@@ -17,12 +17,12 @@ loop-i-preserved g c =
     let inv = c.loop-i.invariant in
     let h = c.loop-i-test.true in
     let k = c.loop-i.auto.table in
-    let to = c.entry-place-to.ensures in
-    let from = c.entry-place-from.ensures in
-    let column = c.entry-place-column.ensures in
+    let to = c.entry_place-to.ensures in
+    let from = c.entry_place-from.ensures in
+    let column = c.entry_place-column.ensures in
     let len : length xs ≡ 256 * n = omega arith in
     let first : c.index-table-from.result ≡ get_or old (c.args.rest * n + i) z =
-    get_or_read xs c.entry-place-from.result _ (omega arith) c.index-table-from.is z ∙ ap (λ p. get_or xs p z) from.0
+    get_or_read xs c.entry_place-from.result _ (omega arith) c.index-table-from.is z ∙ ap (λ p. get_or xs p z) from.0
     ∙ inv.1 (c.args.rest * n + i) (omega (arith, mul-add-lt c.args.rest n i v c.requires.rows.1 h)) in
     let held : get_or xs (c.args.bit * n + i) z ≡ get_or old (c.args.bit * n + i) z =
     elim (cases_lt c.args.bit v) [
@@ -30,8 +30,8 @@ loop-i-preserved g c =
       | inr d ↦ let same : c.args.bit ≡ v = omega arith in inv.2 (c.args.bit * n + i) (omega (arith, ap (λ x. x * n) same))
     ] in
     let second : c.index-table-column.result ≡ get_or old (c.args.bit * n + i) z =
-    get_or_read xs c.entry-place-column.result _ (omega arith) c.index-table-column.is z ∙ ap (λ p. get_or xs p z) column.0 ∙ held in
-    let at = c.entry-place-to.result in (
+    get_or_read xs c.entry_place-column.result _ (omega arith) c.index-table-column.is z ∙ ap (λ p. get_or xs p z) column.0 ∙ held in
+    let at = c.entry_place-to.result in (
       row_place_written z xs (v * n) i at c.sum.result to.0 (λ k. o.sum (get_or old (c.args.rest * n + k) z) (get_or old (c.args.bit * n + k) z)) (omega arith) inv.0 (c.sum.ensures ∙ ap₂ o.sum first second),
       before_row_place z xs (v * n) i at c.sum.result to.0 (λ p. get_or old p z) inv.1,
       after_row_place z xs (v * n) i at c.sum.result to.0 (λ p. get_or old p z) inv.2,

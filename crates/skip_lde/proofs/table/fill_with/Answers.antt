@@ -16,17 +16,17 @@ returns g c =
     let V = g.met.F.TowerLevel.tower in
     let s = c.args.dimensions.log_size in
     let w = c.args.dimensions.within in
-    let n = c.transmitted-len-n.result in
-    let e = c.transmitted-len-n.ensures.value in
+    let n = c.transmitted_len-n.result in
+    let e = c.transmitted_len-n.ensures.value in
     let fits = c.requires.fits in
     let small : s ≤ width g.F.TowerLevel.level = omega arith in
     record {
       fits = fits;
       entries = λ v i h k.
-          ap (λ x. get_or c.peel-rows.new.table (v * x + i) o.zero) (sym e)
-          ∙ c.peel-rows.ensures v i h (omega arith)
-          ∙ bit_sum_same L 8 (λ j. get_or c.clear-row.new.table (2 ^ j * n + i) o.zero) (λ j. column L V s w.0 small j i) v (λ j m.
-          c.clear-row.ensures.kept (2 ^ j * n + i) (later-row j n i)
-          ∙ ap (λ x. get_or c.fill-columns.new.table (2 ^ j * x + i) o.zero) e ∙ c.fill-columns.ensures j i m k)
+          ap (λ x. get_or c.peel_rows.new.table (v * x + i) o.zero) (sym e)
+          ∙ c.peel_rows.ensures v i h (omega arith)
+          ∙ bit_sum_same L 8 (λ j. get_or c.clear_row.new.table (2 ^ j * n + i) o.zero) (λ j. column L V s w.0 small j i) v (λ j m.
+          c.clear_row.ensures.kept (2 ^ j * n + i) (later-row j n i)
+          ∙ ap (λ x. get_or c.fill_columns.new.table (2 ^ j * x + i) o.zero) e ∙ c.fill_columns.ensures j i m k)
           ∙ sym (entry_bits L V s w.0 small v i);
     }

@@ -27,8 +27,8 @@ low_bit v h l =
     let w = lowest 8 64 v (omega arith) (omega arith) (omega arith) in
     (w, one_shl (count_trailing_zeros 64 v) 64 (omega (arith, w.0)))
 
-pub add-rows-requires : goal.add-rows-requires
-add-rows-requires g c =
+pub add_rows-requires : goal.add_rows-requires
+add_rows-requires g c =
     let w = low_bit c.loop-v.v c.loop-v.auto.v c.loop-v-test.true in
     let e = w.0.2 in
     let f = w.1 in
@@ -40,7 +40,7 @@ loop-v-preserved g c =
     let v = c.loop-v.v in
     let w = low_bit v c.loop-v.auto.v c.loop-v-test.true in
     let L = g.met.F.Field.laws in
-    let a = c.add-rows.ensures in (
-      peeled L c.args.table.now c.loop-v.table c.add-rows.new.table c.args.n v (bit_and v (v - 1)) (1 * 2 ^ count_trailing_zeros 64 v % 2 ^ 64) (count_trailing_zeros 64 v) w.0 w.1 c.loop-v.invariant.0 c.loop-v.invariant.1 a.sums a.before a.after,
-      unpeeled L c.args.table.now c.loop-v.table c.add-rows.new.table c.args.n v (bit_and v (v - 1)) (1 * 2 ^ count_trailing_zeros 64 v % 2 ^ 64) (count_trailing_zeros 64 v) w.0 w.1 c.loop-v.invariant.0 c.loop-v.invariant.1 a.sums a.before a.after,
+    let a = c.add_rows.ensures in (
+      peeled L c.args.table.now c.loop-v.table c.add_rows.new.table c.args.n v (bit_and v (v - 1)) (1 * 2 ^ count_trailing_zeros 64 v % 2 ^ 64) (count_trailing_zeros 64 v) w.0 w.1 c.loop-v.invariant.0 c.loop-v.invariant.1 a.sums a.before a.after,
+      unpeeled L c.args.table.now c.loop-v.table c.add_rows.new.table c.args.n v (bit_and v (v - 1)) (1 * 2 ^ count_trailing_zeros 64 v % 2 ^ 64) (count_trailing_zeros 64 v) w.0 w.1 c.loop-v.invariant.0 c.loop-v.invariant.1 a.sums a.before a.after,
     )

@@ -7,11 +7,11 @@ pub loop-byte-init : goal.loop-byte-init
 loop-byte-init c = read_none c.args.base c.args.word.now
 
 pub loop-byte-preserved : goal.loop-byte-preserved
-loop-byte-preserved c = read_more _ _ _ _ c.loop-byte.invariant _ c.loop-byte-test.true (sym c.with-digit.ensures ∙ c.in-ok-value.was)
+loop-byte-preserved c = read_more _ _ _ _ c.loop-byte.invariant _ c.loop-byte-test.true (sym c.with_digit.ensures ∙ c.in_ok-value.was)
 
-pub returns-in-err-value : goal.returns-in-err-value
-returns-in-err-value c =
-    c.from-residual.ensures ∙ sym (read_refused _ _ _ _ c.loop-byte.invariant c.requires c.loop-byte-test.true (sym c.with-digit.ensures ∙ c.in-err-value.was))
+pub returns-in_err-value : goal.returns-in_err-value
+returns-in_err-value c =
+    c.from_residual.ensures ∙ sym (read_refused _ _ _ _ c.loop-byte.invariant c.requires c.loop-byte-test.true (sym c.with_digit.ensures ∙ c.in_err-value.was))
 
 pub returns : goal.returns
-returns c = read_all _ _ _ _ c.loop-byte.invariant c.loop-byte-test.false (eqb-false _ 0 (sym c.if-is-empty.ensures))
+returns c = read_all _ _ _ _ c.loop-byte.invariant c.loop-byte-test.false (eqb-false _ 0 (sym c.if-is_empty.ensures))

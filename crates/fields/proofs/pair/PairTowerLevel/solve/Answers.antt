@@ -1,35 +1,35 @@
-use Rattle.std.proofs.Common.{◌≡◌, Some, refl, ◌∙◌, ap₂}
+use Rattle.std.proofs.Common.{Some, refl, ◌∙◌, ap₂}
 use Rattle.fields.specs.Pairs.{pair}
 use Rattle.fields.specs.PairSolve.{solve_none, solve_first, solve_second, solve_neither, solves_of}
 use Rattle.fields.proofs.pair.PairTowerLevel.solve.Goals as goal
 
-pub returns-in-err-high : goal.returns-in-err-high
-returns-in-err-high g c =
+pub returns-in_err-high : goal.returns-in_err-high
+returns-in_err-high g c =
     let R = g.met.B.Field.laws.ring in
     let S = g.met.B.TowerLevel.tower.solving in
-    let e = c.from-residual.ensures ∙ solve_none R S c.args.self c.in-err-high.ensures.solution in
+    let e = c.from_residual.ensures ∙ solve_none R S c.args.self c.in_err-high.ensures.solution in
     record { solution = e; solves = solves_of R S c.args.self _ e }
 
 pub returns-in-Some : goal.returns-in-Some
 returns-in-Some g c =
     let R = g.met.B.Field.laws.ring in
     let S = g.met.B.TowerLevel.tower.solving in
-    let e = solve_first R S c.args.self c.in-ok-high.high c.in-Some.low c.sum-rest.result c.in-ok-high.ensures.solution (cc) c.in-Some.ensures.solution in
+    let e = solve_first R S c.args.self c.in_ok-high.high c.in-Some.low c.sum-rest.result c.in_ok-high.ensures.solution (cc) c.in-Some.ensures.solution in
     record { solution = e; solves = solves_of R S c.args.self _ e }
 
-pub returns-in-ok-low : goal.returns-in-ok-low
-returns-in-ok-low g c =
+pub returns-in_ok-low-in-None : goal.returns-in_ok-low-in-None
+returns-in_ok-low-in-None g c =
     let R = g.met.B.Field.laws.ring in
     let S = g.met.B.TowerLevel.tower.solving in
-    let k = c.in-ok-low.ensures.solution in
-    let f = solve_second R S c.args.self c.in-ok-high.high c.in-ok-low.low c.sum-rest.result c.in-ok-high.ensures.solution (cc) c.in-None.ensures.solution (cc) in
+    let k = c.in_ok-low-in-None.ensures.solution in
+    let f = solve_second R S c.args.self c.in_ok-high.high c.in_ok-low-in-None.low c.sum-rest.result c.in_ok-high.ensures.solution (cc) c.in-None.ensures.solution (cc) in
     let e = ap₂ (λ a b. Some (pair a b)) refl (cc) ∙ f in
     record { solution = e; solves = solves_of R S c.args.self _ e }
 
-pub returns-in-err-low : goal.returns-in-err-low
-returns-in-err-low g c =
+pub returns-in_err-low-in-None : goal.returns-in_err-low-in-None
+returns-in_err-low-in-None g c =
     let R = g.met.B.Field.laws.ring in
     let S = g.met.B.TowerLevel.tower.solving in
-    let k = c.in-err-low.ensures.solution in
-    let e = c.from-residual-in-err-low.ensures ∙ solve_neither R S c.args.self c.in-ok-high.high c.sum-rest.result c.in-ok-high.ensures.solution (cc) c.in-None.ensures.solution (cc) in
+    let k = c.in_err-low-in-None.ensures.solution in
+    let e = c.from_residual-in_err-low-in-None.ensures ∙ solve_neither R S c.args.self c.in_ok-high.high c.sum-rest.result c.in_ok-high.ensures.solution (cc) c.in-None.ensures.solution (cc) in
     record { solution = e; solves = solves_of R S c.args.self _ e }

@@ -9,5 +9,5 @@ returns-then-self c =
     let b = c.args.self.now in
     let same : b.len - 0 ≡ b.len = omega arith in
     let is : (l : List ℕ) → Makes b l → text_of (take (b.len - 0) b.bytes) ≡ classified l =
-    λ l m. ap (λ n. text_of (take n b.bytes)) same ∙ text_class m (c.if-is-idle.ensures l m) c.if-self.true
+    λ l m. ap (λ n. text_of (take n b.bytes)) same ∙ text_class m (c.if-is_idle.ensures l m) c.if-self.true
     in record { makes = is; holds = λ l h. is _ h.body }

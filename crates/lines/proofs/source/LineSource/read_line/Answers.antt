@@ -7,7 +7,7 @@ loop-init c = reading_none _ c.clear.ensures
 
 pub loop-preserved : goal.loop-preserved
 loop-preserved c =
-    let fill = c.in-ok-refill.ensures in
+    let fill = c.in_ok-refill.ensures in
     let took = c.if-take.ensures in
     let more = refilled_on c.take.new.self c.refill.new.self _ c.if-not-branch.false fill.filled in
     reading_more c.loop.invariant c.take.new.self c.refill.new.self took.taken took.kept.0 took.kept.1 more fill.kept.0 fill.kept.1
@@ -23,7 +23,7 @@ returns-then-take c =
 pub returns-then-not-branch : goal.returns-then-not-branch
 returns-then-not-branch c =
     let r = c.loop.invariant in
-    let fill = c.in-ok-refill.ensures in
+    let fill = c.in_ok-refill.ensures in
     let took = c.if-take.ensures in
     let over = refilled_over c.take.new.self c.refill.new.self _ c.if-not-branch.true fill.filled in
     let holds = all_holds r c.take.new.self c.refill.new.self took.taken fill.kept.0 in
@@ -31,8 +31,8 @@ returns-then-not-branch c =
       stepped = (
         r.came,
         r.may,
-        last_line r took.taken.1.free _ over.0 (over.1 took.taken.0) (c.end-of-input.ensures.makes (all_of r) holds) _
-            (c.end-of-input.ensures.some (all_of r) holds),
+        last_line r took.taken.1.free _ over.0 (over.1 took.taken.0) (c.end_of_input.ensures.makes (all_of r) holds) _
+            (c.end_of_input.ensures.some (all_of r) holds),
       );
       number = omega (arith, fill.kept.1, took.kept.1, r.number);
     }

@@ -11,11 +11,11 @@ use Rattle.lines.proofs.source.LineSource.take.Goals as goal
 within : (c : goal.In-Some) → c.args.self.now.start + c.in-Some.n ≤ c.args.self.now.end
 within c = part_within c.args.self.now.chunk _ _ _ (through_some _ _ c.in-Some.ensures.taken).within c.args.self.now.ordered
 
-pub overflow-add-self : goal.overflow-add-self
-overflow-add-self c = omega (arith, within c)
+pub overflow_add-self : goal.overflow_add-self
+overflow_add-self c = omega (arith, within c)
 
-pub invariant-of-self : goal.invariant-of-self
-invariant-of-self c = (within c, (c.args.self.now.within, tt))
+pub invariant_of-self : goal.invariant_of-self
+invariant_of-self c = record { ordered = within c; within = c.args.self.now.within }
 
 pub returns-in-Some : goal.returns-in-Some
 returns-in-Some c =

@@ -1,4 +1,4 @@
-use Rattle.std.proofs.Common.{◌≡◌, sym, ap, ◌∙◌, arith}
+use Rattle.std.proofs.Common.{sym, ap, ◌∙◌, arith}
 use Rattle.fields.specs.ByteLaws.{some_byte}
 use Rattle.std.specs.Option.{option_map}
 use Rattle.fields.specs.Bytes.{byte, passing, inverts}
