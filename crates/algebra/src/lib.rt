@@ -1,5 +1,7 @@
 // The algebra of polynomials over a field of characteristic two: roots, interpolation, the points of a Cantor basis and
 // their vanishing polynomials. Each function's contract is the theorem that it is named after; it has nothing to compute.
+#![tactic(auto)]
+
 ghost use Rattle.algebra.specs.Theorems.{ZerosDetermine, InterpolationExistsOnce, PointsOfBits, PointsDiffer, PointsAdd, PointsHalve, VanishingIsProduct, VanishingInExtensions, NonzeroProductIsOne, LagrangeByDivision, LagrangeInExtensions, TableRule};
 
 pub mod basis;

@@ -1,2 +1,4 @@
 // What a line of skipextend asks for.
+#![tactic(auto)]
+
 pub mod request;

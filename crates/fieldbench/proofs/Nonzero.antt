@@ -1,5 +1,5 @@
 -- An element other than zero, by the test of equality.
-use Rattle.std.proofs.Common.{◌≡◌, true, false, sym, ap, ◌∙◌}
+use Rattle.std.proofs.Common.{◌≡◌, false, sym, ap, ◌∙◌}
 use mathlib.Core.Bool.{false≢true}
 use Rattle.fields.specs.Field.{Operations, FieldLaws}
 

@@ -1,5 +1,7 @@
 // Times the field operations. Standard output has a checksum for each case, standard error the nanoseconds an operation.
 // An argument is the number of repetitions.
+#![tactic(auto)]
+
 mod cases;
 mod generator;
 mod measure;

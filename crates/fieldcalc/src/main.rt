@@ -1,5 +1,6 @@
 // fieldcalc: reads lines of field arithmetic and prints one answer for each, so that an exchange can
 // check its own arithmetic against ours.
+#![tactic(auto)]
 
 use field_requests::calculation::{Answer, Question, calculate, scale_by_byte};
 use field_requests::request::{FieldName, Reason, Request, read_request};

@@ -1,4 +1,6 @@
 // The figures that whoever rebuilds the round must get.
+#![tactic(auto)]
+
 ghost use Rattle.figures.specs.Figures.{figures, Hold};
 
 // Each figure of the list is what the definitions give. It has nothing to compute.

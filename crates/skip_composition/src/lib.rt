@@ -1,4 +1,6 @@
 // The rules that a round proves: each a polynomial over a field in its operands, read over the field and over its extensions.
+#![tactic(auto)]
+
 pub mod composition;
 pub mod conjunction;
 pub mod gate;

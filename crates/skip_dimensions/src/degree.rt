@@ -152,14 +152,15 @@ impl Dimensions {
         ensures value { result ≡ 2 ^ self.now.log_extended }
         ensures larger { 2 ^ self.now.log_size ≤ result }
     {
-        points(self.log_extended)
+        let dimensions = self.log_extended;
+        points(dimensions)
     }
 
     // Number of transmitted points: those of the extension outside the subspace.
     pub fn num_transmitted(&self) -> usize
         ensures { result ≡ 2 ^ self.now.log_extended - 2 ^ self.now.log_size }
     {
-        self.extended_size() - self.size()
+        points(self.log_extended) - self.size()
     }
 
     // Number of bytes of a packed row, which has one bit for each point of the subspace.

@@ -9,7 +9,7 @@ use Rattle.algebra.proofs.Spans.{points_spanned, spanned_apart}
 use Rattle.skip_domain.specs.Domains.{Room}
 use Rattle.skip_dimensions.specs.declared.dimensions.Dimensions.{Dimensions}
 use Rattle.skip_dimensions.specs.declared.fault.SkipDomainError.{SkipDomainError}
-use Rattle.skip_dimensions.specs.Refusals.{Report, limit, construction, reported}
+use Rattle.skip_dimensions.specs.Refusals.{limit, construction, reported}
 
 limit_cut : (b : ℕ) → limit (min b 64) ≡ limit b
 limit_cut b =

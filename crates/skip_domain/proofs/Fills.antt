@@ -1,7 +1,7 @@
 -- Filling a buffer: the points by doubling, and the values of the vanishing polynomial block by block.
-use Rattle.std.proofs.Common.{◌≡◌, ℕ, zero, suc, ◌+◌, ◌-◌, ◌*◌, ◌^◌, ◌<◌, ◌≤◌, ◌≢◌, List, length, get_or, set, sym, ap, ◌∙◌, subst, ap₂, inl, inr, mul-le-mul_right, suc-mul, add-one, arith, get_or-set_other, get_or-set_same, pow_pos, pow_mono, pow-add, below_more}
+use Rattle.std.proofs.Common.{◌≡◌, ℕ, suc, ◌+◌, ◌-◌, ◌*◌, ◌^◌, ◌<◌, ◌≤◌, ◌≢◌, List, length, get_or, set, sym, ap, ◌∙◌, ap₂, inl, inr, mul-le-mul_right, suc-mul, add-one, arith, get_or-set_other, get_or-set_same, pow_pos, pow_mono, pow-add, below_more}
 use native.Mathlib.Nat.{two-pow-succ}
-use lib.Bits.{bit_xor, xor_shifted}
+use lib.Bits.{xor_shifted}
 use Rattle.std.proofs.lemmas.Bool.{cases_lt}
 use Rattle.fields.specs.Field.{Operations, FieldLaws}
 use Rattle.fields.specs.Tower.{Level, LevelLaws}

@@ -1,14 +1,13 @@
 -- The points of any number of dimensions. From the number of basis elements on every element is a
 -- point, and points repeat; the vanishing polynomial and the product of the nonzero points stay what
 -- they are below it.
-use Rattle.std.proofs.Common.{◌≡◌, ℕ, zero, suc, ◌+◌, ◌^◌, ◌<◌, ◌≤◌, true, cond, ltb, ◌≢◌, Some, unwrap_or, sym, ap, ◌∙◌, subst, ap₂, inl, inr, lt_of_lt_of_le, arith, pow_pos, pow_mono}
+use Rattle.std.proofs.Common.{◌≡◌, ℕ, zero, suc, ◌+◌, ◌^◌, ◌<◌, ◌≤◌, true, cond, ltb, Some, unwrap_or, sym, ap, ◌∙◌, subst, ap₂, inl, inr, lt_of_lt_of_le, arith, pow_pos, pow_mono}
 use mathlib.Core.Logic.{∥∥₁_elim}
 use native.Mathlib.Decide.{ℕ_discrete}
 use lib.Pow.{pow-lt}
 use Rattle.std.proofs.lemmas.Bool.{cases_lt, ltb-true}
 use Rattle.fields.specs.Field.{Operations, FieldLaws}
 use Rattle.fields.specs.Tower.{Level, LevelLaws, width, phi, cantor}
-use Rattle.fields.specs.Rings.{zero_sum}
 use Rattle.fields.specs.Fields.{same_or_not}
 use Rattle.fields.specs.Levels.{phi_zero}
 use Rattle.algebra.specs.Points.{basis_element_or_zero, point, phi_power, vanishing, nonzero_product}
@@ -16,7 +15,7 @@ use Rattle.algebra.proofs.BitSums.{bit_sum_power}
 use Rattle.algebra.proofs.NonzeroProducts.{nonzero_product_one}
 use Rattle.algebra.proofs.Points.{basis_none, point_bits}
 use Rattle.algebra.proofs.Products.{product_same, product_halves}
-use Rattle.algebra.proofs.Spans.{Spanned, points_spanned, spanned_injective, spanned_top, vanishing_zero_at, vanishing_zero_only, vanishing_is_phi_power, phi_power_top}
+use Rattle.algebra.proofs.Spans.{points_spanned, spanned_injective, spanned_top, vanishing_zero_at, vanishing_zero_only, vanishing_is_phi_power, phi_power_top}
 use Rattle.skip_domain.specs.Domains.{Room, ZeroExactlyOn}
 use Rattle.skip_domain.proofs.Places.{none_left_out}
 

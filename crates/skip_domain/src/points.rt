@@ -10,6 +10,7 @@ use fields::tower::TowerLevel;
 pub(crate) fn points(dimensions: usize) -> usize
     requires { dimensions < 64 }
     ensures value { result ≡ 2 ^ dimensions }
+    ensures grows { (k : ℕ) → k ≤ dimensions → 2 ^ k ≤ result }
 {
     1 << dimensions
 }

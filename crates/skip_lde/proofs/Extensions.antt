@@ -1,6 +1,6 @@
 -- The value of a row's polynomial at a transmitted point, byte by byte: the table's entries are sums over the bits of a
 -- byte, and from the built table extending gives that value.
-use Rattle.std.proofs.Common.{◌≡◌, ℕ, zero, suc, ◌+◌, ◌-◌, ◌*◌, ◌/◌, ◌%◌, ◌^◌, ◌<◌, ◌≤◌, cond, eqb, ◌≢◌, List, ◌∷◌, length, get_or, replicate, sym, refl, ap, ◌∙◌, arith, pow_pos}
+use Rattle.std.proofs.Common.{◌≡◌, ℕ, zero, suc, ◌+◌, ◌-◌, ◌*◌, ◌/◌, ◌%◌, ◌^◌, ◌<◌, ◌≤◌, cond, eqb, ◌≢◌, List, length, get_or, replicate, sym, refl, ap, ◌∙◌, arith, pow_pos}
 use lib.Bits.{bit_xor, xor_zero_r}
 use Rattle.fields.specs.Field.{Operations, FieldLaws}
 use Rattle.fields.specs.Tower.{Level, LevelLaws, width}

@@ -1,9 +1,7 @@
 -- Places in the table: the block of a byte, and what stays within a row of the table.
-use Rattle.std.proofs.Common.{◌≡◌, ℕ, ◌+◌, ◌-◌, ◌*◌, ◌/◌, ◌%◌, ◌^◌, ◌<◌, ◌≤◌, ◌≢◌, sym, ap, ◌∙◌, subst, ap₂, mod-eq_of_lt, div-lt_iff_lt-mul, div-add-mod', arith, pow_pos}
-use native.Mathlib.Nat.{div-eq_of_lt}
-use lib.Bits.{bit_xor, xor_block, xor_shr, xor_zero_r}
+use Rattle.std.proofs.Common.{◌≡◌, ℕ, ◌+◌, ◌*◌, ◌%◌, ◌^◌, ◌<◌, ◌≤◌, ◌≢◌, sym, ap, ◌∙◌, ap₂, arith}
+use lib.Bits.{bit_xor, xor_block, xor_zero_r}
 use Rattle.std.proofs.lemmas.Nat.{mul-add-lt, mod-mul-add, pow_below, one_shl}
-use Rattle.skip_lde.specs.Rows.{transmitted, bytes_of_row}
 
 -- output k of block q takes from place k of block q xor b
 pub block_xor : (q b k : ℕ) → k < 8 → bit_xor (8 * q + k) (8 * b) ≡ 8 * bit_xor q b + k

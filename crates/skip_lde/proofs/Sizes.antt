@@ -1,8 +1,8 @@
 -- The sizes of a domain of dimensions s and e: whole bytes, whole blocks, and shifts that stay within the transmitted points.
-use Rattle.std.proofs.Common.{◌≡◌, ℕ, ◌+◌, ◌-◌, ◌*◌, ◌/◌, ◌^◌, ◌<◌, ◌≤◌, sym, ap, ◌∙◌, subst, ap₂, div-lt_iff_lt-mul, arith, pow_pos, pow_mono}
+use Rattle.std.proofs.Common.{◌≡◌, ℕ, ◌+◌, ◌-◌, ◌*◌, ◌/◌, ◌^◌, ◌<◌, ◌≤◌, sym, ap, ◌∙◌, subst, div-lt_iff_lt-mul, arith, pow_pos, pow_mono}
 use native.Mathlib.Nat.{div-eq_of_lt}
 use lib.Bits.{bit_xor, xor_shr, xor_zero_r}
-use Rattle.std.proofs.lemmas.Nat.{pow-add, mul-le}
+use Rattle.std.proofs.lemmas.Nat.{pow-add}
 use Rattle.skip_lde.specs.Rows.{transmitted, bytes_of_row}
 
 -- a change below 2 ^ k stays below a multiple of 2 ^ k

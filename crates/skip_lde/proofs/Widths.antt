@@ -1,7 +1,7 @@
 -- A domain that is not refused has no more dimensions than the field has basis elements.
-use Rattle.std.proofs.Common.{◌≡◌, ℕ, ◌^◌, ◌<◌, ◌≤◌, min, Bool, true, false, cond, ltb, leb, [], ◌∷◌, is_some, IfOk, Some, None, Ok, Err, Option, Result, refl, ap, ◌∙◌, inl, inr, arith, pow_mono}
+use Rattle.std.proofs.Common.{◌≡◌, ℕ, ◌^◌, ◌≤◌, min, Bool, true, false, cond, ltb, leb, is_some, IfOk, Some, None, Ok, Err, Option, Result, ap, inl, inr, arith, pow_mono}
 use Rattle.std.proofs.lemmas.Bool.{false≢true, lt-ltb, cases_lt}
-use Rattle.skip_dimensions.specs.Refusals.{Report, reported, limit, construction}
+use Rattle.skip_dimensions.specs.Refusals.{reported, limit, construction}
 use Rattle.skip_dimensions.specs.declared.dimensions.Dimensions.{Dimensions}
 use Rattle.skip_dimensions.specs.declared.fault.SkipDomainError.{SkipDomainError}
 

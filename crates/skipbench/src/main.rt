@@ -1,5 +1,7 @@
 // Times the extension of packed rows and the construction of tables. Standard output has a checksum for each case,
 // standard error the nanoseconds a row or a table. An argument is the number of repetitions.
+#![tactic(auto)]
+
 mod checksum;
 mod generator;
 mod measure;

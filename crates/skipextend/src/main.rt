@@ -1,4 +1,5 @@
 // skipextend: opens domains and extends packed rows of bits to their transmitted points.
+#![tactic(auto)]
 
 use extension_requests::request::{FieldName, Request, read_request};
 use fields::byte::Byte;

@@ -1,5 +1,6 @@
 // skipplan: reads shapes, one a line, and prints the plan of each over the byte field, or why it
 // has none.
+#![tactic(auto)]
 
 use lines::line::Line;
 use lines::source::LineSource;

@@ -1,6 +1,8 @@
 // skipreplay: answers questions about domains, tables, rows and compositions, one a line, and compares
 // its answers with those that the input gives. A line `= ANSWER` is the answer that the question before it
 // should have; an answer that no such line follows is printed.
+#![tactic(auto)]
+
 mod calls;
 mod print;
 mod question;

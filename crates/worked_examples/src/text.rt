@@ -7,10 +7,10 @@ use words::word::split_word;
 #[test]
 fn words_are_parted_by_spaces(rt: HostRuntime) -> Result<(), Fail> {
     let (first, rest) = split_word(b"  ab  12 ").ok_or("no word")?;
-    assert!(rt; first == b"ab");
+    assert!(rt; first == b"ab".as_slice());
     let (second, rest) = split_word(rest).ok_or("no second word")?;
-    assert!(rt; second == b"12");
-    assert!(rt; rest == b" ");
+    assert!(rt; second == b"12".as_slice());
+    assert!(rt; rest == b" ".as_slice());
     assert!(rt; split_word(rest).is_none());
     Ok(())
 }
@@ -31,7 +31,7 @@ fn return_before_line_feed_is_dropped(rt: HostRuntime) -> Result<(), Fail> {
     assert_eq!(rt; buffer.feed(b"ab\r\ncd"), Some(4));
     match buffer.line() {
         Line::Text(text) => {
-            assert!(rt; text == b"ab");
+            assert!(rt; text == b"ab".as_slice());
             Ok(())
         },
         _ => Err(Fail::new("no text")),

@@ -1,4 +1,4 @@
-use Rattle.std.proofs.Common.{◌≡◌, ℕ, suc, ◌+◌, cond, sym, ap, ◌∙◌, add-one, arith}
+use Rattle.std.proofs.Common.{◌≡◌, ℕ, ◌+◌, cond, sym, ap, ◌∙◌, add-one, arith}
 use Rattle.fields.specs.Field.{Operations}
 use Rattle.algebra.specs.Points.{basis_element_or_zero}
 use Rattle.algebra.specs.Sums.{bit_sum, bit_set}

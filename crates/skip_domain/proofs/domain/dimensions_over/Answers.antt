@@ -1,4 +1,4 @@
-use Rattle.std.proofs.Common.{◌≡◌, ℕ, ap, ◌∙◌}
+use Rattle.std.proofs.Common.{ℕ, ap, ◌∙◌}
 use Rattle.algebra.specs.Points.{point}
 use Rattle.skip_dimensions.specs.Refusals.{construction}
 use Rattle.skip_domain.proofs.Constructions.{construction_cut, construction_apart, construction_room}

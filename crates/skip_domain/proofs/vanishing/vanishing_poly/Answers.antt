@@ -1,4 +1,4 @@
-use Rattle.std.proofs.Common.{◌≡◌, ℕ, ◌+◌, sym, ap, ◌∙◌, ap₂, add-one}
+use Rattle.std.proofs.Common.{◌≡◌, ℕ, ◌+◌, sym, ap, ◌∙◌, add-one}
 use Rattle.fields.specs.Field.{Operations}
 use Rattle.fields.specs.Tower.{phi}
 use Rattle.algebra.specs.Points.{phi_power}

@@ -1,4 +1,4 @@
-use Rattle.std.proofs.Common.{◌*◌, ◌<◌, ◌≤◌, length, arith}
+use Rattle.std.proofs.Common.{length, arith}
 use prog.Memory.{size}
 use denote.Memory.{lone}
 use Rattle.std.proofs.lemmas.Nat.{mul-le}

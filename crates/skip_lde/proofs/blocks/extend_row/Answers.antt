@@ -1,7 +1,6 @@
-use Rattle.std.proofs.Common.{◌≡◌, ℕ, ◌+◌, ◌-◌, ◌*◌, ◌/◌, ◌^◌, ◌<◌, ◌≤◌, length, get_or, sym, ap, ◌∙◌, inl, inr, arith}
-use lib.Bits.{bit_xor}
+use Rattle.std.proofs.Common.{◌≡◌, ℕ, ◌+◌, ◌-◌, ◌*◌, ◌<◌, length, get_or, sym, ap, ◌∙◌, inl, inr, arith}
 use Rattle.std.proofs.lemmas.Bool.{cases_lt}
-use Rattle.skip_lde.specs.Rows.{transmitted, bytes_of_row}
+use Rattle.skip_lde.specs.Rows.{transmitted}
 use Rattle.skip_lde.specs.Tables.{entries_sum}
 use Rattle.skip_lde.proofs.Sizes.{block_shifted, blocks_of, transmitted_below}
 use Rattle.skip_lde.proofs.Extensions.{entries_extend}

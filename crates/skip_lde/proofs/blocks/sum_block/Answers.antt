@@ -1,4 +1,4 @@
-use Rattle.std.proofs.Common.{◌≡◌, ℕ, ◌+◌, ◌*◌, ◌%◌, ◌<◌, ◌≤◌, length, get_or, sym, ap, ◌∙◌, arith}
+use Rattle.std.proofs.Common.{ℕ, ◌+◌, ◌*◌, ◌%◌, ◌<◌, get_or, sym, ap, ◌∙◌, arith}
 use lib.Bits.{bit_xor}
 use Rattle.algebra.specs.Sums.{sum_below}
 use Rattle.algebra.proofs.Sums.{sum_more}

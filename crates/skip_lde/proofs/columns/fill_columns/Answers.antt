@@ -1,4 +1,4 @@
-use Rattle.std.proofs.Common.{◌≡◌, ℕ, ◌+◌, ◌*◌, ◌^◌, ◌<◌, get_or, sym, ap, ◌∙◌, inl, inr, arith}
+use Rattle.std.proofs.Common.{◌≡◌, ◌+◌, ◌*◌, ◌^◌, get_or, sym, ap, ◌∙◌, inl, inr, arith}
 use Rattle.algebra.specs.Interpolation.{lagrange}
 use Rattle.algebra.specs.Points.{point}
 use Rattle.skip_lde.specs.Rows.{transmitted}

@@ -1,7 +1,6 @@
-use Rattle.std.proofs.Common.{◌≡◌, ℕ, ◌+◌, ◌-◌, ◌*◌, ◌/◌, ◌^◌, ◌<◌, ◌≤◌, get_or, sym, ap, ◌∙◌, ap₂, arith, pow_mono}
+use Rattle.std.proofs.Common.{◌+◌, ◌*◌, ◌/◌, ◌^◌, ◌≤◌, get_or, sym, ap, ◌∙◌, ap₂, arith, pow_mono}
 use Rattle.algebra.specs.Points.{point}
 use Rattle.algebra.specs.Quotients.{quotient}
-use Rattle.skip_lde.specs.Rows.{transmitted}
 use Rattle.skip_lde.proofs.Quotients.{quotient_lagrange}
 use Rattle.skip_lde.proofs.columns.write_lagrange.Goals as goal
 

@@ -1,4 +1,4 @@
-use Rattle.std.proofs.Common.{◌≡◌, min, ap, ◌∙◌}
+use Rattle.std.proofs.Common.{ap, ◌∙◌}
 use Rattle.skip_dimensions.specs.Refusals.{construction}
 use Rattle.skip_lde.proofs.Widths.{made_within}
 use Rattle.skip_lde.proofs.lengths.dimensions_over.Goals as goal

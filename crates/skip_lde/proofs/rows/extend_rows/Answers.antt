@@ -1,4 +1,4 @@
-use Rattle.std.proofs.Common.{◌≡◌, ℕ, ◌+◌, ◌-◌, ◌*◌, ◌/◌, ◌<◌, ◌≤◌, List, length, get_or, take, drop, sym, ap, ◌∙◌, ap₂, arith, length-drop, length-take}
+use Rattle.std.proofs.Common.{◌≡◌, ℕ, ◌+◌, ◌-◌, ◌*◌, ◌/◌, ◌≤◌, List, length, take, drop, ap, ◌∙◌, ap₂, arith, length-drop, length-take}
 use Rattle.skip_lde.specs.Rows.{transmitted, bytes_of_row, packed_row, extension}
 use Rattle.skip_lde.specs.Tables.{entries_sum}
 use Rattle.skip_lde.proofs.Writes.{row_written, row_within, row_among}

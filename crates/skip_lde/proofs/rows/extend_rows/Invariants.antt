@@ -1,4 +1,3 @@
-use Rattle.std.proofs.Common.{◌≡◌, ℕ, ◌+◌, ◌*◌, ◌<◌, get_or}
 use Rattle.skip_lde.specs.Rows.{transmitted, bytes_of_row}
 use Rattle.skip_lde.specs.Tables.{Built, SumsEntriesOfRows, ExtendsRows}
 use Rattle.skip_lde.proofs.rows.extend_rows.Given as goal

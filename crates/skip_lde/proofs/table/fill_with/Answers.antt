@@ -1,8 +1,7 @@
-use Rattle.std.proofs.Common.{◌≡◌, ℕ, ◌+◌, ◌*◌, ◌^◌, ◌<◌, ◌≤◌, get_or, sym, ap, ◌∙◌, arith, pow_pos}
+use Rattle.std.proofs.Common.{ℕ, ◌+◌, ◌*◌, ◌^◌, ◌≤◌, get_or, sym, ap, ◌∙◌, arith, pow_pos}
 use Rattle.std.proofs.lemmas.Nat.{mul-le}
 use Rattle.fields.specs.Tower.{width}
 use Rattle.algebra.proofs.BitSums.{bit_sum_same}
-use Rattle.skip_lde.specs.Rows.{transmitted}
 use Rattle.skip_lde.proofs.Extensions.{column, entry_bits}
 use Rattle.skip_lde.proofs.table.fill_with.Goals as goal
 
