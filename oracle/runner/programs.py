@@ -9,8 +9,8 @@ FOLDER = os.path.dirname(os.path.dirname(os.path.abspath(__file__)))
 ROOT = os.path.dirname(FOLDER)
 DEBUG = os.path.join(FOLDER, "target", "debug", "oracle")
 RELEASE = os.path.join(FOLDER, "target", "release", "oracle")
-OURS = os.path.join(ROOT, "target", "bin", "skipreplay")
-FIELDCALC = os.path.join(ROOT, "target", "bin", "fieldcalc")
+OURS = os.path.join(ROOT, "crates", "skipreplay", "out", "skipreplay")
+FIELDCALC = os.path.join(ROOT, "crates", "fieldcalc", "out", "fieldcalc")
 
 
 def build(sources):

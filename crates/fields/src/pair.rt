@@ -1,4 +1,4 @@
-// The pairs a + bX over a level, with X.X = X + top.
+// The pairs a + bX over a level, with X·X = X + top.
 ghost use Rattle.std.specs.Prelude.{◌≡◌, if◌then◌else◌, Some, None, nat_lt};
 ghost use Rattle.fields.specs.Tower.{width};
 ghost use Rattle.fields.specs.Pairs.{norm as norm_of, pair_ops, pair_level, pair_embedding};

@@ -1,5 +1,5 @@
 -- The extension table, and what extending a row gives from it.
-use Rattle.std.specs.Prelude.{◌≡◌, ℕ, ◌+◌, ◌-◌, ◌*◌, ◌%◌, ◌<◌, ◌≤◌, List, ◌∷◌, length, get_or, replicate, bit_xor, slice_index, slice_index_or}
+use Rattle.std.specs.Prelude.{◌≡◌, ℕ, ◌+◌, ◌-◌, ◌*◌, ◌%◌, ◌<◌, ◌≤◌, List, ◌∷◌, length, replicate, bit_xor, slice_index, slice_index_or}
 use Rattle.fields.specs.Field.{Operations}
 use Rattle.fields.specs.Tower.{Level, width}
 use Rattle.algebra.specs.Sums.{sum_below}
@@ -22,7 +22,7 @@ pub record Built {F : Type 0} (o : Operations F) (l : Level F) (s e : ℕ) (tabl
 module _ {F : Type 0} (o : Operations F) where
   -- output i of a row, from a table of rows of n entries, whatever it holds: the sum over bytes b of entry (byte b, i xor 8 b)
   abbrev pub entries_sum : ℕ → List F → List ℕ → ℕ → F
-  entries_sum n table row i = sum_below o (length row) (λ b. get_or table (slice_index row b % 256 * n + bit_xor i (8 * b)) o.zero)
+  entries_sum n table row i = sum_below o (length row) (λ b. slice_index_or table (slice_index row b % 256 * n + bit_xor i (8 * b)) o.zero)
 
   -- the outputs of one row, at the first n places
   abbrev pub SumsEntries : ℕ → List F → List ℕ → List F → Type 0

@@ -1,5 +1,5 @@
 // The table built: its rows of one set bit, then every other row by peeling the lowest set bit.
-ghost use Rattle.std.specs.Prelude.{◌≡◌, ℕ, ◌+◌, ◌-◌, ◌*◌, ◌^◌, ◌<◌, ◌≤◌, ◌≢◌, length, get_or, slice_index_or};
+ghost use Rattle.std.specs.Prelude.{◌≡◌, ℕ, ◌+◌, ◌-◌, ◌*◌, ◌^◌, ◌<◌, ◌≤◌, ◌≢◌, length, slice_index_or};
 ghost use Rattle.fields.specs.Tower.{width};
 ghost use Rattle.algebra.specs.Sums.{bit_sum};
 ghost use Rattle.skip_lde.specs.Rows.{transmitted};
@@ -44,7 +44,7 @@ fn add_rows<F: Field>(table: &mut [F], n: usize, v: usize, rest: usize, bit: usi
 fn peel_rows<F: Field>(table: &mut [F], n: usize)
     requires table { (length table.old ≡ 256 * n) × (n < 2 ^ 17) }
     requires zeros { (i : ℕ) → i < n → slice_index_or table.old i F.Field.ops.zero ≡ F.Field.ops.zero }
-    ensures { (v i : ℕ) → v < 256 → i < n → slice_index_or table.new (v * n + i) F.Field.ops.zero ≡ bit_sum F.Field.ops 8 (λ j. get_or table.old (2 ^ j * n + i) F.Field.ops.zero) v }
+    ensures { (v i : ℕ) → v < 256 → i < n → slice_index_or table.new (v * n + i) F.Field.ops.zero ≡ bit_sum F.Field.ops 8 (λ j. slice_index_or table.old (2 ^ j * n + i) F.Field.ops.zero) v }
 {
     for v in 1..256usize {
         add_rows(table, n, v, v & (v - 1), 1 << v.trailing_zeros());

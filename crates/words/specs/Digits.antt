@@ -2,8 +2,8 @@
 use Rattle.std.specs.Prelude.{ℕ, ◌+◌, ◌*◌, cond, ◌||◌, List, [], ◌∷◌, Some, None, Option, nat_le}
 use Rattle.words.specs.Numerals.{worth}
 
-abbrev pub byte_of : ℕ → ℕ → Option ℕ
-byte_of h l = cond (nat_le 16 (worth h) || nat_le 16 (worth l)) None (Some (worth h * 16 + worth l))
+abbrev pub byte_written : ℕ → ℕ → Option ℕ
+byte_written h l = cond (nat_le 16 (worth h) || nat_le 16 (worth l)) None (Some (worth h * 16 + worth l))
 
 abbrev pub before : Option ℕ → Option (List ℕ) → Option (List ℕ)
 before None bs = None
@@ -14,4 +14,4 @@ before (Some b) (Some bs) = Some (b ∷ bs)
 abbrev pub bytes_of : List ℕ → Option (List ℕ)
 bytes_of [] = Some []
 bytes_of (h ∷ []) = None
-bytes_of (h ∷ l ∷ ds) = before (byte_of h l) (bytes_of ds)
+bytes_of (h ∷ l ∷ ds) = before (byte_written h l) (bytes_of ds)

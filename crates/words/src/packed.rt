@@ -1,14 +1,14 @@
 // A packed row from its hexadecimal digits, byte 0 first.
 ghost use Rattle.std.specs.Prelude.{◌≡◌, IfOk, vec_items};
 ghost use Rattle.std.specs.Option.{option_map};
-ghost use Rattle.words.specs.Digits.{byte_of, bytes_of};
+ghost use Rattle.words.specs.Digits.{byte_written, bytes_of};
 
 use crate::numeral::digit_worth;
 use std::alloc::{AllocError, Global};
 
 // The byte that two digits write, the high one first.
 fn byte_of(high: u8, low: u8) -> Option<u8>
-    ensures { result ≡ byte_of high low }
+    ensures { result ≡ byte_written high low }
 {
     let (h, l) = (digit_worth(high), digit_worth(low));
     if h >= 16 || l >= 16 {

@@ -1,5 +1,7 @@
 // The rules on examples, one module for each subject. A crate with tests is proved twice, so they stand
 // apart from what they try.
+#![tactic(auto)]
+
 #[cfg(test)]
 mod dimensions;
 #[cfg(test)]
