@@ -4,7 +4,7 @@
 tools/respell.py        at the top of the repository, after the toolchain's own porting script, once
 
 A name counts as ours where a file of specs/, or a lemma file right in proofs/, declares it and nothing of the standard
-library of that name is imported anywhere. Functions of src/, strings and comments of the sources, inputs and outputs stay as they are.
+library of that name is imported anywhere. Functions, strings and comments of src/, inputs and outputs stay as they are.
 Names that would fall together with another name of the same file are printed, and nothing is written.
 """
 
@@ -17,7 +17,6 @@ DECLARED = re.compile(
     re.M,
 )
 IMPORTED = re.compile(r"use\s+Rattle\.(?:std|core)[^\s{;]*\.\{([^}]*)\}")
-RENAMED = re.compile(r"\{([^}]*)\}")
 WORD_END = r"(?![\w'-])"
 WORD_START = r"(?<![\w'-])"
 
@@ -37,7 +36,7 @@ APART = {
 MEMBERS = {"log-bits"}
 
 # what the porting script took for a member of a type and capitalised
-GARBLED = {"Sum-self": "sum-self"}
+GARBLED = {"Sum-self": "sum_self"}
 
 
 def texts(top):
@@ -139,7 +138,7 @@ def main():
     find = pattern(names)
     fallen = list(clashes(files, names, find))
     print("\n".join(fallen))
-    if fallen and "--anyway" not in sys.argv:
+    if fallen:
         return 1
     changed = 0
     for path, text in files.items():
