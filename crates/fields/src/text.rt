@@ -6,6 +6,7 @@ use super::tower::TowerLevel;
 use std::fmt;
 
 // Writes the low 128 bits of an element's number in hexadecimal digits, padded with zeros to the width.
+#[derive(Clone, Copy)]
 pub struct Hexadecimal<F>(pub F);
 
 impl<F: TowerLevel> fmt::Display for Hexadecimal<F> {
