@@ -38,7 +38,7 @@ impl Field for Bit {
     }
 
     fn inverse(self) -> Option<Bit> {
-        if self.on { Some(self) } else { None }
+        self.on.then_some(self)
     }
 }
 
@@ -56,7 +56,7 @@ impl TowerLevel for Bit {
     }
 
     fn to_number(self) -> u128 {
-        if self.on { 1 } else { 0 }
+        u128::from(self.on)
     }
 
     fn top() -> Bit {
@@ -64,10 +64,6 @@ impl TowerLevel for Bit {
     }
 
     fn solve(self) -> Option<Bit> {
-        if self.on {
-            None
-        } else {
-            Some(Bit { on: false })
-        }
+        (!self.on).then_some(Bit { on: false })
     }
 }

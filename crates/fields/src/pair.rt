@@ -31,7 +31,7 @@ fn half_bits<B: TowerLevel>() -> Option<u32>
     ensures { result ≡ (if nat_lt B.TowerLevel.level.log_bits 7 then Some (width B.TowerLevel.level) else None) }
 {
     let log = B::log_bits();
-    if log < 7 { Some(1 << log) } else { None }
+    (log < 7).then(|| 1 << log)
 }
 
 impl<B: TowerLevel> Field for Pair<B> {
@@ -75,13 +75,11 @@ impl<B: TowerLevel> Field for Pair<B> {
     }
 
     fn inverse(self) -> Option<Pair<B>> {
-        match norm(self).inverse() {
-            Some(n) => Some(Pair {
-                low: self.low.sum(self.high).product(n),
-                high: self.high.product(n),
-            }),
-            None => None,
-        }
+        let n = norm(self).inverse()?;
+        Some(Pair {
+            low: self.low.sum(self.high).product(n),
+            high: self.high.product(n),
+        })
     }
 }
 
@@ -91,8 +89,7 @@ impl<B: TowerLevel> TowerLevel for Pair<B> {
     ghost tower = { pair_tower B.Field.laws B.TowerLevel.tower };
 
     fn log_bits() -> usize {
-        let half = B::log_bits();
-        if half < 64 { half + 1 } else { 64 }
+        (B::log_bits() + 1).min(64)
     }
 
     fn from_number(n: u128) -> Pair<B> {
