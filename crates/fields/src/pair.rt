@@ -75,8 +75,7 @@ impl<B: TowerLevel> Field for Pair<B> {
     }
 
     fn inverse(self) -> Option<Pair<B>> {
-        let n = norm(self).inverse()?;
-        Some(Pair {
+        norm(self).inverse().map(|n| Pair {
             low: self.low.sum(self.high).product(n),
             high: self.high.product(n),
         })
