@@ -1,11 +1,13 @@
 -- The laws of the byte field and of its level.
-use Rattle.std.specs.Prelude.{◌≡◌, ℕ, zero, suc, ◌+◌, ◌-◌, ◌%◌, ◌<◌, ◌≤◌, Bool, true, false, cond, not, ltb, ◌⊎◌, is_some, Some, None, Option, ◌==◌, ◌≢◌, bit_xor, nat_lt, slice_index, slice_index_or, refl}
+use Rattle.std.specs.Prelude.{◌≡◌, ℕ, zero, suc, ◌+◌, ◌-◌, ◌%◌, ◌<◌, ◌≤◌, Bool, true, false, not, ltb, ◌⊎◌, is_some, Some, None, Option, ◌==◌, ◌≢◌, bit_xor, nat_lt, slice_index, slice_index_or, refl}
 use Rattle.std.proofs.Common.{sym, ap, ap₂, ◌∙◌, subst, inl, inr, mod-eq_of_lt, arith, lit<, lit≤}
 use Rattle.std.proofs.Math.Bridge.{le_prop}
 use Rattle.std.specs.Int.Bits.{xor_assoc, xor_self, xor_zero_r}
 use Rattle.std.proofs.lemmas.Nat.{xor_comm, xor_lt}
-use Rattle.std.proofs.lemmas.Bool.{lt-ltb, le-ltb, eq-eqb, eqb-true, cases_lt, and_parts, cond-true, cond-false}
+use Rattle.std.proofs.lemmas.Bool.{lt-ltb, le-ltb, eq-eqb, eqb-true, cases_lt, and_parts}
+use Rattle.std.proofs.lemmas.Option.{slice_get-get_or, slice_get_past}
 use Rattle.std.specs.Option.{option_map}
+use Rattle.std.specs.List.{slice_get}
 use Rattle.fields.specs.declared.byte.Byte.{Byte}
 use Rattle.fields.specs.Field.{FieldLaws}
 use Rattle.fields.specs.Tower.{LevelLaws, Solves, phi, cantor, solution}
@@ -138,12 +140,12 @@ cantor_none : (j : ℕ) → 8 ≤ j → cantor byte_ops byte_level j ≡ None
 cantor_none j h = let e : 8 + (j - 8) ≡ j = omega arith in sym (ap (cantor byte_ops byte_level) e) ∙ cantor_ends (j - 8)
 
 -- the basis is the table
-pub byte_cantor : (j : ℕ) → cantor byte_ops byte_level j ≡ option_map byte (cond (nat_lt j 8) (Some (slice_index byte_basis j)) None)
+pub byte_cantor : (j : ℕ) → cantor byte_ops byte_level j ≡ option_map byte (slice_get byte_basis j)
 byte_cantor j = go (cases_lt j 8)
   where
-    go : (j < 8) ⊎ (8 ≤ j) → cantor byte_ops byte_level j ≡ option_map byte (cond (nat_lt j 8) (Some (slice_index byte_basis j)) None)
-    go (inl h) = cantor_is j h ∙ ap (option_map byte) (sym (cond-true _ _ _ (lt-ltb j 8 h)))
-    go (inr h) = cantor_none j h ∙ ap (option_map byte) (sym (cond-false _ _ _ (le-ltb j 8 h)))
+    go : (j < 8) ⊎ (8 ≤ j) → cantor byte_ops byte_level j ≡ option_map byte (slice_get byte_basis j)
+    go (inl h) = cantor_is j h ∙ ap (option_map byte) (sym (slice_get-get_or byte_basis j 0 h))
+    go (inr h) = cantor_none j h ∙ ap (option_map byte) (sym (slice_get_past byte_basis j h))
 
 pub byte_tower : LevelLaws byte_ops byte_level
 byte_tower = record {

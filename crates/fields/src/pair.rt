@@ -3,7 +3,7 @@ ghost use Rattle.std.specs.Prelude.{◌≡◌, if◌then◌else◌, Some, None, 
 ghost use Rattle.fields.specs.Tower.{width};
 ghost use Rattle.fields.specs.Pairs.{norm as norm_of, pair_ops, pair_level, pair_embedding};
 ghost use Rattle.fields.specs.Levels.{no_root};
-ghost use Rattle.fields.specs.PairLaws.{pair_field};
+ghost use Rattle.fields.specs.PairLaws.{pair_field, pair_equality};
 ghost use Rattle.fields.specs.PairBasis.{pair_tower};
 ghost use Rattle.fields.specs.PairExtends.{pair_extends};
 
@@ -11,7 +11,7 @@ use super::extension::{ExtensionField, Up};
 use super::field::Field;
 use super::tower::TowerLevel;
 
-#[derive(Clone, Copy)]
+#[derive(Clone, Copy, PartialEq, Eq)]
 pub struct Pair<B> {
     pub low: B,
     pub high: B,
@@ -31,7 +31,7 @@ fn half_bits<B: TowerLevel>() -> Option<u32>
     ensures { result ≡ (if nat_lt B.TowerLevel.level.log_bits 7 then Some (width B.TowerLevel.level) else None) }
 {
     let log = B::log_bits();
-    if log < 7 { Some(1 << log) } else { None }
+    (log < 7).then(|| 1 << log)
 }
 
 impl<B: TowerLevel> Field for Pair<B> {
@@ -39,6 +39,8 @@ impl<B: TowerLevel> Field for Pair<B> {
 
     ghost laws = { let L = B.Field.laws in
         pair_field L _ (no_root B.TowerLevel.tower.solving L.ring) };
+
+    ghost equality = { pair_equality B.Field.ops B.TowerLevel.level.top B.Field.equality };
 
     fn zero() -> Pair<B> {
         Pair {
@@ -73,17 +75,10 @@ impl<B: TowerLevel> Field for Pair<B> {
     }
 
     fn inverse(self) -> Option<Pair<B>> {
-        match norm(self).inverse() {
-            Some(n) => Some(Pair {
-                low: self.low.sum(self.high).product(n),
-                high: self.high.product(n),
-            }),
-            None => None,
-        }
-    }
-
-    fn equals(self, other: Pair<B>) -> bool {
-        self.low.equals(other.low) && self.high.equals(other.high)
+        norm(self).inverse().map(|n| Pair {
+            low: self.low.sum(self.high).product(n),
+            high: self.high.product(n),
+        })
     }
 }
 
@@ -93,8 +88,7 @@ impl<B: TowerLevel> TowerLevel for Pair<B> {
     ghost tower = { pair_tower B.Field.laws B.TowerLevel.tower };
 
     fn log_bits() -> usize {
-        let half = B::log_bits();
-        if half < 64 { half + 1 } else { 64 }
+        (B::log_bits() + 1).min(64)
     }
 
     fn from_number(n: u128) -> Pair<B> {
@@ -162,7 +156,7 @@ where
     }
 
     fn as_base(self) -> Option<F> {
-        if self.high.equals(B::zero()) {
+        if self.high == B::zero() {
             self.low.as_base()
         } else {
             None

@@ -41,11 +41,8 @@ pub trait TowerLevel: Field {
         ensures within { is_some result ≡ nat_lt j (width level) }
     {
         let mut v = Self::one();
-        for i in 0..j {
-            match v.solve() {
-                Some(y) => v = y,
-                None => return None,
-            }
+        for _i in 0..j {
+            v = v.solve()?;
         }
         Some(v)
     }

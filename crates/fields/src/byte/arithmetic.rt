@@ -1,49 +1,49 @@
 // The byte field's arithmetic, by the tables.
-ghost use Rattle.fields.specs.Bytes.{byte_ops, byte_level};
+ghost use Rattle.std.specs.Prelude.{◌≡◌, refl};
+ghost use Rattle.fields.specs.Bytes.{byte, byte_ops, byte_level};
 ghost use Rattle.fields.specs.ByteLaws.{byte_field, byte_tower};
 
 use super::{Byte, tables};
 use crate::field::Field;
 use crate::tower::TowerLevel;
 
+impl Byte {
+    // The element whose number is `value`.
+    fn new(value: u8) -> Byte
+        ensures { result ≡ byte value }
+    {
+        Byte { value }
+    }
+}
+
 impl Field for Byte {
     ghost ops = { byte_ops };
 
     ghost laws = { byte_field };
 
+    ghost equality = { λ x y. refl };
+
     fn zero() -> Byte {
-        Byte { value: 0 }
+        Byte::new(0)
     }
 
     fn one() -> Byte {
-        Byte { value: 1 }
+        Byte::new(1)
     }
 
     fn sum(self, other: Byte) -> Byte {
-        Byte {
-            value: self.value ^ other.value,
-        }
+        Byte::new(self.value ^ other.value)
     }
 
     fn product(self, other: Byte) -> Byte {
-        Byte {
-            value: tables::exp(
-                tables::log(self.value) as usize + tables::log(other.value) as usize,
-            ),
-        }
+        Byte::new(tables::exp(tables::log(self.value) + tables::log(other.value)))
     }
 
     fn inverse(self) -> Option<Byte> {
         if self.value == 0 {
             return None;
         }
-        Some(Byte {
-            value: tables::exp(255 - tables::log(self.value) as usize),
-        })
-    }
-
-    fn equals(self, other: Byte) -> bool {
-        self.value == other.value
+        Some(Byte::new(tables::exp(255 - tables::log(self.value))))
     }
 }
 
@@ -57,36 +57,26 @@ impl TowerLevel for Byte {
     }
 
     fn from_number(n: u128) -> Byte {
-        Byte {
-            value: (n % 256) as u8,
-        }
+        Byte::new((n % 256) as u8)
     }
 
     fn to_number(self) -> u128 {
-        self.value as u128
+        u128::from(self.value)
     }
 
     fn top() -> Byte {
-        Byte { value: 128 }
+        Byte::new(128)
     }
 
     fn times_top(self) -> Byte {
-        Byte {
-            value: tables::top_product(self.value),
-        }
+        Byte::new(tables::top_product(self.value))
     }
 
     fn solve(self) -> Option<Byte> {
-        match tables::solution(self.value) {
-            Some(y) => Some(Byte { value: y }),
-            None => None,
-        }
+        tables::solution(self.value).map(Byte::new)
     }
 
     fn cantor_basis(j: usize) -> Option<Byte> {
-        match tables::basis(j) {
-            Some(v) => Some(Byte { value: v }),
-            None => None,
-        }
+        tables::basis(j).map(Byte::new)
     }
 }

@@ -1,6 +1,7 @@
 // The tables of the byte field, sixteen entries a line: powers of the least generator, hexadecimal 12, and their exponents, products by top, solutions of
 // y·y + y = t for t below 128, and the Cantor basis.
-ghost use Rattle.std.specs.Prelude.{◌≡◌, ◌<◌, if◌then◌else◌, Some, None, nat_lt, slice_index};
+ghost use Rattle.std.specs.Prelude.{◌≡◌, ◌<◌, if◌then◌else◌, nat_lt};
+ghost use Rattle.std.specs.List.{slice_get};
 ghost use Rattle.fields.specs.Bytes.{power, Log, bilinear, passing, solves_byte, byte_basis};
 
 const EXP: &[u8; 1021] = b"\
@@ -124,10 +125,10 @@ pub(super) fn exp(i: usize) -> u8
 }
 
 // The exponent of `x` as a power; 510 for zero.
-pub(super) fn log(x: u8) -> u16
+pub(super) fn log(x: u8) -> usize
     ensures { Log x result }
 {
-    LOG[x as usize]
+    LOG[x as usize] as usize
 }
 
 pub(super) fn top_product(x: u8) -> u8
@@ -148,7 +149,7 @@ pub(super) fn solution(t: u8) -> Option<u8>
 }
 
 pub(super) fn basis(j: usize) -> Option<u8>
-    ensures { result ≡ (if nat_lt j 8 then Some (slice_index byte_basis j) else None) }
+    ensures { result ≡ slice_get byte_basis j }
 {
-    if j < 8 { Some(BASIS[j]) } else { None }
+    BASIS.get(j).copied()
 }

@@ -3,4 +3,4 @@ use Rattle.fields.specs.Tower.{cantor}
 use Rattle.fields.proofs.tower.TowerLevel.cantor_basis.Given as goal
 
 abbrev pub invariant-loop-i : goal.invariant-loop-i
-invariant-loop-i g l = Some l.v ≡ cantor g.Self.Field.ops g.Self.TowerLevel.level l.i
+invariant-loop-i g l = Some l.v ≡ cantor g.Self.Field.ops g.Self.TowerLevel.level l._i
