@@ -7,7 +7,8 @@ use Rattle.algebra.specs.Polynomials.{Below}
 use Rattle.algebra.specs.Embeddings.{Embeds}
 use Rattle.algebra.proofs.Degrees.{degree_more, degree_zero, degree_constant, degree_add, degree_scale, degree_product}
 use Rattle.algebra.proofs.Embeddings.{embed_zero}
-use Rattle.skip_composition.specs.Polynomials.{Polynomial, operands, operand_product, value_through, value, with_ones, factor_lists, most_factors, past_largest, operand_count}
+use Rattle.skip_composition.specs.Theorems.{EvaluationsAgree}
+use Rattle.skip_composition.specs.Polynomials.{Polynomial, Monomials, operands, operand_product, value_through, value, with_ones, factor_lists, most_factors, past_largest, operand_count}
 
 module _ {E : Type 0} (o : Operations E) where
   product_within : (is : List ℕ) (f g : ℕ → E) → ((i : ℕ) → i < past_largest is → f i ≡ g i) → operand_product o is f ≡ operand_product o is g
@@ -66,11 +67,15 @@ module _ {F E : Type 0} {o : Operations F} {p : Operations E} {e : F → E} (L :
   operands_embed (x ∷ xs) zero = refl
   operands_embed (x ∷ xs) (suc i) = operands_embed xs i
 
-  -- coefficients one stay one
-  pub ones_embed : (ms : List (List ℕ)) (at : ℕ → E) → value_through p e (with_ones o ms) at ≡ value p (with_ones p ms) at
-  ones_embed [] at = refl
-  ones_embed (is ∷ ms) at = ap₂ (λ u w. p.sum (p.product u (operand_product p is at)) w) H.one (ones_embed ms at)
+-- coefficients one stay one
+pub ones_embed : {F E : Type 0} {o : Operations F} {p : Operations E} {e : F → E} → Embeds o p e → (ms : Monomials) (at : ℕ → E) → value_through p e (with_ones o ms) at ≡ value p (with_ones p ms) at
+ones_embed H [] at = refl
+ones_embed {p} H (is ∷ ms) at = ap₂ (λ u w. p.sum (p.product u (operand_product p is at)) w) H.one (ones_embed H ms at)
 
 -- an embedding of an interface is an embedding
 pub embeds : {F E : Type 0} {o : Operations F} {p : Operations E} {m : Embedding F E} → Keeps o p m → Embeds o p m.embed
 embeds k = record { one = k.one; sum = k.sum; product = k.product }
+
+-- at the images of a list of operands, a polynomial has its value's image
+pub agrees_embedded : {F E : Type 0} {o : Operations F} {p : Operations E} {m : Embedding F E} → FieldLaws o → FieldLaws p → Keeps o p m → (q : Polynomial F) → EvaluationsAgree o p m.embed q
+agrees_embedded L M K q xs = value_embeds L M (embeds K) q _ _ (operands_embed L M (embeds K) xs)
