@@ -1,6 +1,7 @@
 -- Values of polynomials in several operands: which operands they depend on, their degree where each operand is a
 -- polynomial in one variable, and their images in an extension.
-use Rattle.std.proofs.Common.{◌≡◌, ℕ, zero, suc, ◌-◌, ◌*◌, ◌<◌, ◌≤◌, List, [], ◌∷◌, ◌++◌, map, length, replicate, sym, refl, ap, ◌∙◌, ap₂, mul-le-mul_right, arith}
+use Rattle.std.proofs.Common.{◌≡◌, ℕ, zero, suc, ◌-◌, ◌*◌, ◌<◌, ◌≤◌, List, [], ◌∷◌, ◌++◌, map, length, replicate, get_or, sym, refl, ap, ◌∙◌, ap₂, mul-le-mul_right, arith}
+use Rattle.std.proofs.Math.ListN.{get_or-map}
 use Rattle.fields.specs.Field.{Operations, FieldLaws}
 use Rattle.fields.specs.Extension.{Embedding, Keeps}
 use Rattle.algebra.specs.Polynomials.{Below}
@@ -30,11 +31,6 @@ module _ {E : Type 0} (o : Operations E) where
   operands_missing (x ∷ xs) n zero = refl
   operands_missing (x ∷ xs) n (suc i) = operands_missing xs n i
 
-  pub operands_surplus : (xs ys : List E) (i : ℕ) → i < length xs → operands o (xs ++ ys) i ≡ operands o xs i
-  operands_surplus [] ys i l = absurd (omega arith)
-  operands_surplus (x ∷ xs) ys zero l = refl
-  operands_surplus (x ∷ xs) ys (suc i) l = operands_surplus xs ys i (omega arith)
-
 -- the value of a polynomial whose monomials have at most d factors, at operands that are polynomials of degree below n in
 -- one variable, is such a polynomial of degree at most d * (n - 1)
 module _ {F E : Type 0} {o : Operations E} (L : FieldLaws o) (e : F → E) (n : ℕ) (f : E → ℕ → E) (h : (i : ℕ) → Below o n (λ x. f x i)) where
@@ -63,9 +59,7 @@ module _ {F E : Type 0} {o : Operations F} {p : Operations E} {e : F → E} (L :
       ∙ sym (H.sum _ _)
 
   pub operands_embed : (xs : List F) (i : ℕ) → operands p (map e xs) i ≡ e (operands o xs i)
-  operands_embed [] i = sym (embed_zero L M H)
-  operands_embed (x ∷ xs) zero = refl
-  operands_embed (x ∷ xs) (suc i) = operands_embed xs i
+  operands_embed xs i = ap (get_or (map e xs) i) (sym (embed_zero L M H)) ∙ get_or-map e xs i o.zero
 
 -- coefficients one stay one
 pub ones_embed : {F E : Type 0} {o : Operations F} {p : Operations E} {e : F → E} → Embeds o p e → (ms : Monomials) (at : ℕ → E) → value_through p e (with_ones o ms) at ≡ value p (with_ones p ms) at

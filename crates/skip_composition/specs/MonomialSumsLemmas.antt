@@ -1,9 +1,9 @@
 -- A sum of monomials with the coefficient one: what it declares is so.
-use Rattle.std.specs.Prelude.{◌≡◌, ℕ, ◌<◌, ◌≤◌, [], ◌∷◌, refl}
+use Rattle.std.specs.Prelude.{◌≡◌, ℕ, [], ◌∷◌, refl}
 use Rattle.std.proofs.Common.{ap, ◌∙◌, arith}
 use Rattle.fields.specs.Field.{Operations}
-use Rattle.skip_composition.specs.Polynomials.{Monomials, with_ones, factor_lists, operand_count, most_factors}
-use Rattle.skip_composition.specs.Declarations.{Exact, Declares, declared_by, no_bound}
+use Rattle.skip_composition.specs.Polynomials.{Monomials, with_ones, factor_lists, operand_count}
+use Rattle.skip_composition.specs.Declarations.{Exact, Declares, declared_by}
 
 module _ {F : Type 0} (o : Operations F) where
   pub ones_factors : (ms : Monomials) → factor_lists (with_ones o ms) ≡ ms
