@@ -1,11 +1,12 @@
 -- What follows from a declared arity and degree.
 use Rattle.std.proofs.Common.{ℕ, suc, ◌-◌, ◌*◌, ◌<◌, ◌≤◌, [], ◌∷◌, arith}
+use Rattle.std.proofs.lemmas.List.{get_or_append_left}
 use Rattle.fields.specs.Field.{Operations, FieldLaws}
 use Rattle.algebra.specs.Polynomials.{Below}
 use Rattle.skip_composition.specs.Declarations.{Declared, Exact, Declares, no_bound}
 use Rattle.skip_composition.specs.Polynomials.{Polynomial, value_through, factor_lists, operand_count}
 use Rattle.skip_composition.specs.Theorems.{ReadsOperands}
-use Rattle.skip_composition.proofs.Values.{value_within, value_degree, operands_missing, operands_surplus}
+use Rattle.skip_composition.proofs.Values.{value_within, value_degree, operands_missing}
 
 exact_bounds : {F : Type 0} (n : ℕ) (p : Polynomial F) → Exact n p → operand_count (factor_lists p) ≤ n
 exact_bounds n [] h = omega arith
@@ -16,7 +17,7 @@ reads_operands o e q d D = record {
   missing = λ xs n. value_within o e q _ _ (λ i l. operands_missing o xs n i);
   surplus = λ xs ys a b.
       let k = exact_bounds d.arity q (D.exact a) in
-      value_within o e q _ _ (λ i l. operands_surplus o xs ys i (omega arith));
+      value_within o e q _ _ (λ i l. get_or_append_left xs ys o.zero i (omega arith));
 }
 
 -- at operands that are polynomials of degree below n in one variable, the value is one of degree at most the declared

@@ -1,13 +1,15 @@
 -- Values of polynomials in several operands: which operands they depend on, their degree where each operand is a
 -- polynomial in one variable, and their images in an extension.
-use Rattle.std.proofs.Common.{◌≡◌, ℕ, zero, suc, ◌-◌, ◌*◌, ◌<◌, ◌≤◌, List, [], ◌∷◌, ◌++◌, map, length, replicate, sym, refl, ap, ◌∙◌, ap₂, mul-le-mul_right, arith}
+use Rattle.std.proofs.Common.{◌≡◌, ℕ, zero, suc, ◌-◌, ◌*◌, ◌<◌, ◌≤◌, List, [], ◌∷◌, ◌++◌, map, length, replicate, get_or, sym, refl, ap, ◌∙◌, ap₂, mul-le-mul_right, arith}
+use Rattle.std.proofs.Math.ListN.{get_or-map}
 use Rattle.fields.specs.Field.{Operations, FieldLaws}
 use Rattle.fields.specs.Extension.{Embedding, Keeps}
 use Rattle.algebra.specs.Polynomials.{Below}
 use Rattle.algebra.specs.Embeddings.{Embeds}
 use Rattle.algebra.proofs.Degrees.{degree_more, degree_zero, degree_constant, degree_add, degree_scale, degree_product}
 use Rattle.algebra.proofs.Embeddings.{embed_zero}
-use Rattle.skip_composition.specs.Polynomials.{Polynomial, operands, operand_product, value_through, value, with_ones, factor_lists, most_factors, past_largest, operand_count}
+use Rattle.skip_composition.specs.Theorems.{EvaluationsAgree}
+use Rattle.skip_composition.specs.Polynomials.{Polynomial, Monomials, operands, operand_product, value_through, value, with_ones, factor_lists, most_factors, past_largest, operand_count}
 
 module _ {E : Type 0} (o : Operations E) where
   product_within : (is : List ℕ) (f g : ℕ → E) → ((i : ℕ) → i < past_largest is → f i ≡ g i) → operand_product o is f ≡ operand_product o is g
@@ -28,11 +30,6 @@ module _ {E : Type 0} (o : Operations E) where
   operands_missing [] (suc n) (suc i) = operands_missing [] n i
   operands_missing (x ∷ xs) n zero = refl
   operands_missing (x ∷ xs) n (suc i) = operands_missing xs n i
-
-  pub operands_surplus : (xs ys : List E) (i : ℕ) → i < length xs → operands o (xs ++ ys) i ≡ operands o xs i
-  operands_surplus [] ys i l = absurd (omega arith)
-  operands_surplus (x ∷ xs) ys zero l = refl
-  operands_surplus (x ∷ xs) ys (suc i) l = operands_surplus xs ys i (omega arith)
 
 -- the value of a polynomial whose monomials have at most d factors, at operands that are polynomials of degree below n in
 -- one variable, is such a polynomial of degree at most d * (n - 1)
@@ -62,15 +59,17 @@ module _ {F E : Type 0} {o : Operations F} {p : Operations E} {e : F → E} (L :
       ∙ sym (H.sum _ _)
 
   pub operands_embed : (xs : List F) (i : ℕ) → operands p (map e xs) i ≡ e (operands o xs i)
-  operands_embed [] i = sym (embed_zero L M H)
-  operands_embed (x ∷ xs) zero = refl
-  operands_embed (x ∷ xs) (suc i) = operands_embed xs i
+  operands_embed xs i = ap (get_or (map e xs) i) (sym (embed_zero L M H)) ∙ get_or-map e xs i o.zero
 
-  -- coefficients one stay one
-  pub ones_embed : (ms : List (List ℕ)) (at : ℕ → E) → value_through p e (with_ones o ms) at ≡ value p (with_ones p ms) at
-  ones_embed [] at = refl
-  ones_embed (is ∷ ms) at = ap₂ (λ u w. p.sum (p.product u (operand_product p is at)) w) H.one (ones_embed ms at)
+-- coefficients one stay one
+pub ones_embed : {F E : Type 0} {o : Operations F} {p : Operations E} {e : F → E} → Embeds o p e → (ms : Monomials) (at : ℕ → E) → value_through p e (with_ones o ms) at ≡ value p (with_ones p ms) at
+ones_embed H [] at = refl
+ones_embed {p} H (is ∷ ms) at = ap₂ (λ u w. p.sum (p.product u (operand_product p is at)) w) H.one (ones_embed H ms at)
 
 -- an embedding of an interface is an embedding
 pub embeds : {F E : Type 0} {o : Operations F} {p : Operations E} {m : Embedding F E} → Keeps o p m → Embeds o p m.embed
 embeds k = record { one = k.one; sum = k.sum; product = k.product }
+
+-- at the images of a list of operands, a polynomial has its value's image
+pub agrees_embedded : {F E : Type 0} {o : Operations F} {p : Operations E} {m : Embedding F E} → FieldLaws o → FieldLaws p → Keeps o p m → (q : Polynomial F) → EvaluationsAgree o p m.embed q
+agrees_embedded L M K q xs = value_embeds L M (embeds K) q _ _ (operands_embed L M (embeds K) xs)

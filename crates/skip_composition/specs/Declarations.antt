@@ -1,6 +1,6 @@
 -- What a composition declares of its polynomial: arity and degree, 16-bit numbers. 65,535 declares no bound.
-use Rattle.std.specs.Prelude.{◌≡◌, ℕ, ◌<◌, ◌≤◌, [], ◌∷◌}
-use Rattle.skip_composition.specs.Polynomials.{Polynomial, factor_lists, most_factors, operand_count}
+use Rattle.std.specs.Prelude.{◌≡◌, ℕ, ◌<◌, ◌≤◌, min, [], ◌∷◌}
+use Rattle.skip_composition.specs.Polynomials.{Polynomial, Monomials, factor_lists, most_factors, operand_count}
 
 pub record Declared : Type 0 where
   pub arity : ℕ
@@ -20,3 +20,8 @@ pub record Declares {F : Type 0} (p : Polynomial F) (d : Declared) : Type 0 wher
   pub sixteen_bits : (d.arity ≤ no_bound) × (d.degree ≤ no_bound)
   pub exact : d.arity < no_bound → Exact d.arity p
   pub bounds : d.degree < no_bound → most_factors (factor_lists p) ≤ d.degree
+
+-- what a sum of monomials declares: the number of its operands and the most factors of a monomial, each stopping at the
+-- number that declares no bound
+abbrev pub declared_by : Monomials → Declared
+declared_by ms = record { arity = min (operand_count ms) no_bound; degree = min (most_factors ms) no_bound }

@@ -1,5 +1,5 @@
 -- A gate: what its polynomial's value is, how many operands and factors it has.
-use Rattle.std.specs.Prelude.{◌≡◌, ℕ, suc, ◌<◌, ◌≤◌, List, [], ◌∷◌, map, get_or, drop, slice_index_or, refl}
+use Rattle.std.specs.Prelude.{◌≡◌, ℕ, suc, ◌<◌, ◌≤◌, List, [], ◌∷◌, map, drop, refl}
 use Rattle.std.proofs.Common.{sym, ap, ap₂, ◌∙◌, arith}
 use Rattle.std.proofs.lemmas.List.{length-map}
 use Rattle.fields.specs.Field.{Operations, FieldLaws}
@@ -57,10 +57,10 @@ module _ {E : Type 0} {o : Operations E} (L : FieldLaws o) where
   gated_value e (m ∷ p) f g h =
       ap₂ (λ x y. e m.coefficient ⊗ (f 0 ⊗ x) ⊕ y) (moved_product m.factors f g h) (gated_value e p f g h) ∙ factored _ _ _ _
 
-  -- the operands after the first
-  pub operands_after : (xs ys : List E) → ys ≡ drop 1 xs → (i : ℕ) → operands o ys i ≡ operands o xs (suc i)
-  operands_after xs ys h i = ap (λ zs. get_or zs i 𝟘) h ∙ dropped xs i
-    where
-      dropped : (xs : List E) (i : ℕ) → slice_index_or (drop 1 xs) i 𝟘 ≡ slice_index_or xs (suc i) 𝟘
-      dropped [] i = refl
-      dropped (x ∷ xs) i = refl
+  dropped : (xs : List E) (i : ℕ) → operands o (drop 1 xs) i ≡ operands o xs (suc i)
+  dropped [] i = refl
+  dropped (x ∷ xs) i = refl
+
+  -- at a list of operands: the first one times the inner polynomial's value at the others
+  pub gate_value : {F : Type 0} (e : F → E) (p : Polynomial F) (xs : List E) → value_through o e (gated p) (operands o xs) ≡ operands o xs 0 ⊗ value_through o e p (operands o (drop 1 xs))
+  gate_value e p xs = gated_value e p _ _ (dropped xs)

@@ -4,3 +4,4 @@ pub mod Gates
 pub mod Rules
 pub mod Theorems
 pub mod GatesLemmas
+pub mod MonomialSumsLemmas

@@ -10,6 +10,10 @@ pub record Monomial (F : Type 0) : Type 0 where
 abbrev pub Polynomial : Type 0 → Type 0
 Polynomial F = List (Monomial F)
 
+-- the factors of each monomial
+abbrev pub Monomials : Type 0
+Monomials = List (List ℕ)
+
 module _ {E : Type 0} (o : Operations E) where
   -- the operands that a list of values gives: a missing one is zero
   abbrev pub operands : List E → ℕ → E
@@ -30,7 +34,7 @@ module _ {E : Type 0} (o : Operations E) where
   value = value_through (λ c. c)
 
   -- the polynomial whose monomials have these factors, and the coefficient one
-  abbrev pub with_ones : List (List ℕ) → Polynomial E
+  abbrev pub with_ones : Monomials → Polynomial E
   with_ones [] = []
   with_ones (is ∷ ms) = record { coefficient = o.one; factors = is } ∷ with_ones ms
 

@@ -2,14 +2,12 @@
 -- Every coefficient is one, so a rule is given by the factors of its monomials, each an operand by its index. Arity and
 -- degree are read off the monomials.
 use Rattle.std.specs.Prelude.{ℕ, suc, Bool, false, cond, ◌||◌, List, [], ◌∷◌, ◌++◌, map, Some, None, codes, Option, ◌==◌}
+use Rattle.std.specs.Fmt.{decimal}
 use Rattle.fields.specs.Field.{Operations}
 use Rattle.skip_composition.specs.Gates.{gated_factors}
-use Rattle.skip_composition.specs.Polynomials.{Polynomial, with_ones, most_factors}
+use Rattle.skip_composition.specs.Polynomials.{Polynomial, Monomials, with_ones, most_factors}
 use Rattle.skip_composition.specs.declared.rule.Rule.{Rule}
 use Rattle.skip_composition.specs.declared.rule.Rule.TheVariants.{Zero, Boolean, Conjunction, StopChain}
-
-abbrev pub Monomials : Type 0
-Monomials = List (List ℕ)
 
 -- a*b + c
 abbrev pub conjunction : Monomials
@@ -66,3 +64,7 @@ text_of Zero = codes "a"
 text_of Boolean = codes "a*a + a"
 text_of Conjunction = codes "a*b + c"
 text_of StopChain = codes "g*(a*b + c)"
+
+-- what is said of a code that no rule has
+abbrev pub unknown_text : ℕ → List ℕ
+unknown_text n = codes "no rule has code " ++ decimal n

@@ -4,7 +4,7 @@ ghost use Rattle.skip_composition.specs.Declarations.{Declared, Declares};
 ghost use Rattle.skip_composition.specs.Polynomials.{Polynomial, operands, value, value_through};
 ghost use Rattle.skip_composition.specs.Theorems.{EvaluationsAgree, ReadsOperands};
 
-use fields::extension::ExtensionField;
+use fields::extension::{ExtensionField, Here};
 use fields::field::Field;
 
 // A polynomial over F in its operands, with a declared arity and degree. Each evaluation gives the
@@ -22,8 +22,12 @@ pub trait Composition<F: Field> {
     fn degree(&self) -> u16
         ensures { result ≡ (declared self.now).degree };
 
+    // The value over the field, which extends itself.
     fn eval_base(&self, values: &[F]) -> F
-        ensures { result ≡ value F.Field.ops (polynomial self.now) (operands F.Field.ops values.now) };
+        ensures { result ≡ value F.Field.ops (polynomial self.now) (operands F.Field.ops values.now) }
+    {
+        self.eval_extension::<F, Here>(values)
+    }
 
     fn eval_extension<EF: ExtensionField<F, D>, D>(&self, values: &[EF]) -> EF
         ensures { result ≡ value_through EF.Field.ops EF.ExtensionField.over.embed (polynomial self.now) (operands EF.Field.ops values.now) };
@@ -32,15 +36,13 @@ pub trait Composition<F: Field> {
 }
 
 // The two evaluations agree: that of embedded operands is the image of that of the operands.
-pub fn evaluations_agree<F: Field, EF: ExtensionField<F, D>, D, C: Composition<F>>() -> u8
+#[tactic(auto, using(crate::proofs::Values::agrees_embedded))]
+pub fn evaluations_agree<F: Field, EF: ExtensionField<F, D>, D, C: Composition<F>>()
     ensures { (c : C) → EvaluationsAgree F.Field.ops EF.Field.ops EF.ExtensionField.over.embed (C.Composition.polynomial c) }
-{
-    0
-}
+{}
 
 // Missing operands read as zero, and values past a declared arity are skipped.
-pub fn operands_are_read<F: Field, EF: ExtensionField<F, D>, D, C: Composition<F>>() -> u8
+#[tactic(auto, using(crate::proofs::Declarations::reads_operands))]
+pub fn operands_are_read<F: Field, EF: ExtensionField<F, D>, D, C: Composition<F>>()
     ensures { (c : C) → ReadsOperands EF.Field.ops EF.ExtensionField.over.embed (C.Composition.polynomial c) (C.Composition.declared c) }
-{
-    0
-}
+{}

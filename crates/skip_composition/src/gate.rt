@@ -1,16 +1,15 @@
 // A gate over any composition.
-ghost use Rattle.std.specs.Prelude.{◌≡◌, drop};
-ghost use Rattle.skip_composition.specs.Polynomials.{operands, value_through};
+ghost use Rattle.std.specs.Prelude.{◌≡◌};
 ghost use Rattle.skip_composition.specs.Gates.{gated, gated_number, gated_declared};
 ghost use Rattle.skip_composition.specs.GatesLemmas.{gated_declares};
 
 use crate::composition::Composition;
 use crate::operand::{after_first, operand};
-use fields::extension::{ExtensionField, Here};
+use fields::extension::ExtensionField;
 use fields::field::Field;
 
 // The first operand times a composition of the others.
-#[derive(Clone, Copy)]
+#[derive(Clone, Copy, PartialEq, Eq, Debug)]
 pub struct Gate<C> {
     pub inner: C,
 }
@@ -21,17 +20,6 @@ pub(crate) fn one_more(n: u16) -> u16
 {
     n.saturating_add(1)
 }
-
-// A fact, called for what it promises: the gated polynomial's value is the first operand times
-// the inner polynomial's value at the others.
-fn gate_multiplies<F: Field, EF: ExtensionField<F, D>, D, C: Composition<F>>(
-    inner: &C,
-    values: &[EF],
-    others: &[EF],
-)
-    requires { others.now ≡ drop 1 values.now }
-    ensures { value_through EF.Field.ops EF.ExtensionField.over.embed (gated (C.Composition.polynomial inner.now)) (operands EF.Field.ops values.now) ≡ EF.Field.ops.product (operands EF.Field.ops values.now 0) (value_through EF.Field.ops EF.ExtensionField.over.embed (C.Composition.polynomial inner.now) (operands EF.Field.ops others.now)) }
-{}
 
 impl<F: Field, C: Composition<F>> Composition<F> for Gate<C> {
     ghost polynomial = { λ s. gated (C.Composition.polynomial s.inner) };
@@ -48,15 +36,8 @@ impl<F: Field, C: Composition<F>> Composition<F> for Gate<C> {
         one_more(self.inner.degree())
     }
 
-    fn eval_base(&self, values: &[F]) -> F {
-        let others = after_first(values);
-        gate_multiplies::<F, F, Here, C>(&self.inner, values, others);
-        operand(values, 0).product(self.inner.eval_base(others))
-    }
-
     fn eval_extension<EF: ExtensionField<F, D>, D>(&self, values: &[EF]) -> EF {
         let others = after_first(values);
-        gate_multiplies::<F, EF, D, C>(&self.inner, values, others);
         operand(values, 0).product(self.inner.eval_extension(others))
     }
 }

@@ -4,6 +4,7 @@
 pub mod composition;
 pub mod conjunction;
 pub mod gate;
+pub mod monomial_sum;
 mod operand;
 pub mod rule;
 pub mod square_product;

@@ -1,18 +1,20 @@
 // The matching rules by their codes.
-ghost use Rattle.std.specs.Prelude.{◌≡◌, [], ◌∷◌};
-ghost use Rattle.skip_composition.specs.Polynomials.{operands, value, value_through, with_ones};
-ghost use Rattle.skip_composition.specs.Rules.{coded, arity_of, degree_of, polynomial_of, text_of};
-ghost use Rattle.std.proofs.Common.{rules};
+ghost use Rattle.std.specs.Prelude.{◌≡◌, Some};
+ghost use Rattle.std.specs.Option.{ok_or};
+ghost use Rattle.skip_composition.specs.Rules.{coded, arity_of, degree_of, text_of, unknown_text};
+ghost use Rattle.skip_composition.specs.Rules.{monomials as monomials_of};
 
 use crate::composition::Composition;
 use crate::conjunction::Conjunction;
 use crate::gate::{Gate, one_more};
+use crate::monomial_sum::MonomialSum;
 use crate::operand::operand;
-use fields::extension::ExtensionField;
 use fields::field::Field;
+use std::error::Error;
+use std::fmt;
 
 // A rule of the round file. A row keeps its rule where the rule's value is zero.
-#[derive(Clone, Copy)]
+#[derive(Clone, Copy, PartialEq, Eq, Debug)]
 pub enum Rule {
     // a: the bit is clear
     Zero,
@@ -24,18 +26,18 @@ pub enum Rule {
     StopChain,
 }
 
+// A code that no rule has.
+#[derive(Clone, Copy, PartialEq, Eq, Debug)]
+pub struct UnknownRule {
+    pub code: usize,
+}
+
 impl Rule {
     // The rule of a code, or none for a code above 3.
     pub fn from_code(code: usize) -> Option<Rule>
         ensures { result ≡ coded code }
     {
-        match code {
-            0 => Some(Rule::Zero),
-            1 => Some(Rule::Boolean),
-            2 => Some(Rule::Conjunction),
-            3 => Some(Rule::StopChain),
-            _ => None,
-        }
+        Rule::try_from(code).ok()
     }
 
     // Number of operands that the rule reads.
@@ -73,44 +75,42 @@ impl Rule {
     }
 }
 
-// a
-fn clear<E: Field>(values: &[E]) -> E
-    ensures { result ≡ value E.Field.ops (with_ones E.Field.ops ((0 ∷ []) ∷ [])) (operands E.Field.ops values.now) }
-{
-    operand(values, 0)
-}
+impl TryFrom<usize> for Rule {
+    type Error = UnknownRule;
 
-// a·a + a
-fn boolean<E: Field>(values: &[E]) -> E
-    ensures { result ≡ value E.Field.ops (with_ones E.Field.ops ((0 ∷ 0 ∷ []) ∷ (0 ∷ []) ∷ [])) (operands E.Field.ops values.now) }
-{
-    let a = operand(values, 0);
-    a.product(a).sum(a)
-}
+    ghost try_from_gives = { λ code r. r ≡ ok_or (coded code) (record { code = code }) };
 
-// The rule's value over any field. The stop chain is the gate over the conjunction.
-fn value_of<E: Field>(rule: &Rule, values: &[E]) -> E
-    ensures { result ≡ value E.Field.ops (polynomial_of E.Field.ops rule.now) (operands E.Field.ops values.now) }
-{
-    match rule {
-        Rule::Zero => clear(values),
-        Rule::Boolean => boolean(values),
-        Rule::Conjunction => Conjunction.eval_base(values),
-        Rule::StopChain => Gate { inner: Conjunction }.eval_base(values),
+    fn try_from(code: usize) -> Result<Rule, UnknownRule> {
+        match code {
+            0 => Ok(Rule::Zero),
+            1 => Ok(Rule::Boolean),
+            2 => Ok(Rule::Conjunction),
+            3 => Ok(Rule::StopChain),
+            _ => Err(UnknownRule { code }),
+        }
     }
 }
 
-// A fact, called for what it promises: the rule's coefficients are one in an extension too.
-fn keeps_ones<F: Field, EF: ExtensionField<F, D>, D>(rule: &Rule, values: &[EF])
-    ensures { value_through EF.Field.ops EF.ExtensionField.over.embed (polynomial_of F.Field.ops rule.now) (operands EF.Field.ops values.now) ≡ value EF.Field.ops (polynomial_of EF.Field.ops rule.now) (operands EF.Field.ops values.now) }
-{}
+impl fmt::Display for Rule {
+    ghost output = { λ r. Some (text_of r) };
 
-impl<F: Field> Composition<F> for Rule {
-    ghost polynomial = { polynomial_of F.Field.ops };
+    fn fmt<W: fmt::Write>(&self, f: &mut fmt::Formatter<W>) -> fmt::Result {
+        f.write_str(self.text())
+    }
+}
 
-    ghost declared = { λ s. record { arity = arity_of s; degree = degree_of s } };
+impl fmt::Display for UnknownRule {
+    ghost output = { λ e. Some (unknown_text e.code) };
 
-    ghost declares = { Prim.search rules };
+    fn fmt<W: fmt::Write>(&self, f: &mut fmt::Formatter<W>) -> fmt::Result {
+        write!(f, "no rule has code {}", self.code)
+    }
+}
+
+impl Error for UnknownRule {}
+
+impl MonomialSum for Rule {
+    ghost monomials = { monomials_of };
 
     fn arity(&self) -> u16 {
         Rule::arity(self)
@@ -120,12 +120,16 @@ impl<F: Field> Composition<F> for Rule {
         Rule::degree(self)
     }
 
-    fn eval_base(&self, values: &[F]) -> F {
-        value_of(self, values)
-    }
-
-    fn eval_extension<EF: ExtensionField<F, D>, D>(&self, values: &[EF]) -> EF {
-        keeps_ones::<F, EF, D>(self, values);
-        value_of(self, values)
+    // The stop chain is the gate over the conjunction.
+    fn value<E: Field>(&self, values: &[E]) -> E {
+        match self {
+            Rule::Zero => operand(values, 0),
+            Rule::Boolean => {
+                let a = operand(values, 0);
+                a.product(a).sum(a)
+            }
+            Rule::Conjunction => Conjunction.value(values),
+            Rule::StopChain => Gate { inner: Conjunction }.eval_base(values),
+        }
     }
 }
