@@ -1,4 +1,4 @@
-use Rattle.std.proofs.Common.{◌≡◌, cond, sym, ap, ◌∙◌, rules}
+use Rattle.std.proofs.Common.{cond, sym, ap, ◌∙◌, rules}
 use Rattle.lines.specs.declared.line.Content.TheVariants.{Readable, Unfit}
 use Rattle.lines.proofs.Growth.{text_first, text_on}
 use Rattle.lines.proofs.line.Content.with_byte.Goals as goal

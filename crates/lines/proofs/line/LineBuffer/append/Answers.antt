@@ -1,4 +1,4 @@
-use Rattle.std.proofs.Common.{refl, ap, ◌∙◌, length, length-take}
+use Rattle.std.proofs.Common.{ap, ◌∙◌, length, length-take}
 use Rattle.lines.proofs.Growth.{front_push}
 use Rattle.lines.proofs.line.LineBuffer.append.Goals as goal
 
