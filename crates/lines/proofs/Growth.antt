@@ -5,7 +5,7 @@ use Rattle.std.proofs.lemmas.Bool.{ltb-true, le-leb, eqb-true, ne_eqb, cond-fals
 use Rattle.std.proofs.lemmas.Bool.Decides.{nat_tests}
 use Rattle.arrayvec.specs.ArrayVec.{ArrayVec, array_vec_len}
 use Rattle.lines.specs.declared.line.Content.{Content}
-use Rattle.lines.specs.declared.line.Content.TheVariants.{Blank, Comment, Readable, Unfit}
+use Rattle.lines.specs.declared.line.Content.TheVariants.{Blank, Readable, Unfit}
 use Rattle.words.specs.Pieces.{every}
 use Rattle.lines.specs.Lines.{space, printable, is_readable}
 use Rattle.lines.specs.Buffers.{content_of}
@@ -49,80 +49,41 @@ readable_push l len b count =
     room (every printable l) (leb (length l) 16384) (printable b) (ltb len 16384) more
     ∙ ap (λ t. (every printable l && printable b) && t) here ∙ sym (ap (λ t. t && leb (length (l ++ b ∷ [])) 16384) (every_push printable l b))
 
-first_push : (l : List ℕ) (b : ℕ) → eqb (get_or (l ++ b ∷ []) 0 0) 35 ≡ cond (eqb (length l) 0) (eqb b 35) (eqb (get_or l 0 0) 35)
-first_push [] b = refl
-first_push (x ∷ xs) b = sym (cond-false _ (eqb b 35) (eqb x 35) (ne_eqb (length (x ∷ xs)) 0 (λ e. omega arith)))
-
 spaces_printable : (l : List ℕ) → every space l ≡ true → every printable l ≡ true
 spaces_printable [] h = refl
 spaces_printable (x ∷ xs) h =
     let parts = and_parts (space x) (every space xs) h in
     and_from _ _ (ap printable (eqb-true x 32 parts.0)) (spaces_printable xs parts.1)
 
-abbrev pub sort : Bool → Bool → Bool → Content
-sort comment blank readable = cond comment Comment (cond blank Blank (cond readable Readable Unfit))
+abbrev sort : Bool → Bool → Content
+sort blank readable = cond blank Blank (cond readable Readable Unfit)
 
--- what the content becomes with a byte that may be the first, a number sign, a space, and one that a text may have here
-abbrev pub next : Content → Bool → Bool → Bool → Bool → Content
-next Blank first sign blank fits = cond blank Blank (cond (sign && first) Comment (cond fits Readable Unfit))
-next Comment first sign blank fits = Comment
-next Readable first sign blank fits = cond fits Readable Unfit
-next Unfit first sign blank fits = Unfit
+-- what the content becomes with a byte that may be a space, and one that a text may have here
+abbrev next : Content → Bool → Bool → Content
+next Blank blank fits = cond blank Blank (cond fits Readable Unfit)
+next Readable blank fits = cond fits Readable Unfit
+next Unfit blank fits = Unfit
 
-sorted : (c s r first sign blank fits : Bool) → (first ≡ true → Blank ≡ sort c s r) → (blank ≡ true → sign ≡ false) → (s ≡ true → fits ≡ true → r ≡ true) →
-    next (sort c s r) first sign blank fits ≡ sort (cond first sign c) (s && blank) (r && fits)
-sorted true s r true sign blank fits h k m = let z = h refl in cc
-sorted true s r false sign blank fits h k m = refl
-sorted false true r true sign true fits h k m = let z = k refl in cc
-sorted false true r true true false fits h k m = refl
-sorted false true true true false false fits h k m = refl
-sorted false true false true false false true h k m = let z = m refl refl in cc
-sorted false true false true false false false h k m = refl
-sorted false true r false sign true fits h k m = refl
-sorted false true true false true false fits h k m = refl
-sorted false true true false false false fits h k m = refl
-sorted false true false false sign false true h k m = let z = m refl refl in cc
-sorted false true false false true false false h k m = refl
-sorted false true false false false false false h k m = refl
-sorted false false true true sign blank fits h k m = let z = h refl in cc
-sorted false false false true sign blank fits h k m = let z = h refl in cc
-sorted false false true false sign blank fits h k m = refl
-sorted false false false false sign blank fits h k m = refl
-
-none_blank : (l : List ℕ) → eqb (length l) 0 ≡ true → Blank ≡ content_of l
-none_blank [] e = refl
-none_blank (x ∷ xs) e = absurd (omega (arith, eqb-true (length (x ∷ xs)) 0 e))
+sorted : (s r blank fits : Bool) → (s ≡ true → fits ≡ true → r ≡ true) → next (sort s r) blank fits ≡ sort (s && blank) (r && fits)
+sorted true r true fits m = refl
+sorted true true false fits m = refl
+sorted true false false true m = let z = m refl refl in cc
+sorted true false false false m = refl
+sorted false true blank fits m = refl
+sorted false false blank fits m = refl
 
 -- the content of a line with one more byte, where `kept` of its bytes are kept
-pub content_push : (k : Content) (l : List ℕ) (b kept : ℕ) → k ≡ content_of l → kept ≡ min 16384 (length l) →
-    next k (eqb (length l) 0) (eqb b 35) (eqb b 32) (printable b && ltb kept 16384) ≡ content_of (l ++ b ∷ [])
-content_push k l b kept is count =
-    let fits = printable b && ltb kept 16384 in
-    let first = eqb (length l) 0 in
-    let starts = eqb (get_or l 0 0) 35 in
-    let room : every space l ≡ true → fits ≡ true → is_readable l ≡ true =
-    λ s f. and_from _ _ (spaces_printable l s) (le-leb (length l) 16384 (omega (arith, count, ltb-true kept 16384 (and_parts (printable b) _ f).1))) in
-    ap (λ x. next x first (eqb b 35) (eqb b 32) fits) is
-    ∙ sorted starts (every space l) (is_readable l) first (eqb b 35) (eqb b 32) fits (none_blank l) (λ e. ap (λ x. eqb x 35) (eqb-true b 32 e)) room
-    ∙ sym (
-    ap (λ t. sort t (every space (l ++ b ∷ [])) (is_readable (l ++ b ∷ []))) (first_push l b)
-    ∙ ap (λ t. sort (cond first (eqb b 35) starts) t (is_readable (l ++ b ∷ []))) (every_push space l b)
-    ∙ ap (λ t. sort (cond first (eqb b 35) starts) (every space l && eqb b 32) t) (sym (readable_push l kept b count))
-    )
-
-not_both : (x y : Bool) → (x ≡ true → y ≡ true → ⊥) → (x && y) ≡ false
-not_both true true h = absurd (h refl refl)
-not_both true false h = refl
-not_both false y h = refl
-
 module _ (k : Content) (l : List ℕ) (b kept : ℕ) (is : k ≡ content_of l) (count : kept ≡ min 16384 (length l)) where
-  goes_on : (j : Content) → k ≡ j → next j (eqb (length l) 0) (eqb b 35) (eqb b 32) (printable b && ltb kept 16384) ≡ content_of (l ++ b ∷ [])
-  goes_on j e = content_push j l b kept (sym e ∙ is) count
+  goes_on : (j : Content) → k ≡ j → next j (eqb b 32) (printable b && ltb kept 16384) ≡ content_of (l ++ b ∷ [])
+  goes_on j e =
+      let fits = printable b && ltb kept 16384 in
+      let room : every space l ≡ true → fits ≡ true → is_readable l ≡ true =
+      λ s f. and_from _ _ (spaces_printable l s) (le-leb (length l) 16384 (omega (arith, count, ltb-true kept 16384 (and_parts (printable b) _ f).1))) in
+      ap (λ x. next x (eqb b 32) fits) (sym e ∙ is) ∙ sorted (every space l) (is_readable l) (eqb b 32) fits room
+      ∙ ap (λ t. sort t (is_readable l && fits)) (sym (every_push space l b)) ∙ ap (sort (every space (l ++ b ∷ []))) (readable_push l kept b count)
 
-  pub text_first : k ≡ Blank → (b ≡ 32 → ⊥) → (b ≡ 35 → kept ≡ 0 → ⊥) → cond (printable b && ltb kept 16384) Readable Unfit ≡ content_of (l ++ b ∷ [])
-  text_first e other more =
-      let rest : (eqb b 35 && eqb (length l) 0) ≡ false = not_both _ _ (λ s f. let none : length l ≡ 0 = eqb-true (length l) 0 f in more (eqb-true b 35 s) (omega arith)) in
-      sym (cond-false _ _ _ (ne_eqb b 32 other) ∙ cond-false _ _ _ rest) ∙ goes_on Blank e
+  pub text_first : k ≡ Blank → (b ≡ 32 → ⊥) → cond (printable b && ltb kept 16384) Readable Unfit ≡ content_of (l ++ b ∷ [])
+  text_first e other = sym (cond-false _ _ _ (ne_eqb b 32 other)) ∙ goes_on Blank e
 
   pub text_on : k ≡ Readable → cond (printable b && ltb kept 16384) Readable Unfit ≡ content_of (l ++ b ∷ [])
   text_on e = goes_on Readable e

@@ -1,9 +1,9 @@
 -- What a line buffer stands for.
-use Rattle.std.specs.Prelude.{◌≡◌, ℕ, cond, List, take, ◌==◌, slice_index}
+use Rattle.std.specs.Prelude.{◌≡◌, ℕ, cond, List, take}
 use Rattle.lines.specs.declared.line.Line.{Line}
 use Rattle.lines.specs.declared.line.Line.TheVariants.{Passed, Unreadable, Text}
 use Rattle.lines.specs.declared.line.Content.{Content}
-use Rattle.lines.specs.declared.line.Content.TheVariants.{Blank, Comment, Readable, Unfit}
+use Rattle.lines.specs.declared.line.Content.TheVariants.{Blank, Readable, Unfit}
 use Rattle.lines.specs.declared.line.LineBuffer.{LineBuffer}
 use Rattle.words.specs.Pieces.{every}
 use Rattle.lines.specs.Lines.{Class, passed_over, not_readable, text_of, space, is_readable, ends_in_cr, without_cr}
@@ -13,9 +13,9 @@ shown Passed = passed_over
 shown Unreadable = not_readable
 shown (Text t) = text_of t.now
 
--- what the bytes l are so far: a comment, nothing but spaces, a text, or none of these
+-- what the bytes l are so far: nothing but spaces, readable, or neither
 abbrev pub content_of : List ℕ → Content
-content_of l = cond (slice_index l 0 == 35) Comment (cond (every space l) Blank (cond (is_readable l) Readable Unfit))
+content_of l = cond (every space l) Blank (cond (is_readable l) Readable Unfit)
 
 -- the line that b gives has the bytes l
 pub record Makes (b : LineBuffer) (l : List ℕ) : Type 0 where

@@ -22,11 +22,9 @@ pub enum Line<'a> {
 enum Content {
     // no byte, or nothing but spaces
     Blank,
-    // `#` came first
-    Comment,
     // printable, and no more than LINE_LIMIT
     Readable,
-    // none of these
+    // neither
     Unfit,
 }
 

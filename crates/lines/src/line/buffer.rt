@@ -1,5 +1,5 @@
 // How a line is put together byte by byte.
-ghost use Rattle.std.specs.Prelude.{◌≡◌, ℕ, false, min, List, [], ◌∷◌, ◌++◌, ◌&&◌, length, nat_lt};
+ghost use Rattle.std.specs.Prelude.{◌≡◌, ℕ, false, min, List, [], ◌∷◌, ◌++◌, ◌&&◌, ◌==◌, length, nat_lt, slice_index};
 ghost use Rattle.std.specs.List.{position};
 ghost use Rattle.words.specs.Pieces.{some};
 ghost use Rattle.lines.specs.Lines.{classified, without_cr, before_lf, through_lf, is_lf, printable, EndsLine};
@@ -29,7 +29,6 @@ impl Content {
     {
         match self {
             Content::Blank if byte == b' ' => Content::Blank,
-            Content::Blank if byte == b'#' && kept == 0 => Content::Comment,
             Content::Blank | Content::Readable => {
                 if fits(byte, kept) {
                     Content::Readable
@@ -37,7 +36,7 @@ impl Content {
                     Content::Unfit
                 }
             }
-            Content::Comment | Content::Unfit => self,
+            Content::Unfit => Content::Unfit,
         }
     }
 }
@@ -127,13 +126,23 @@ impl LineBuffer {
         self.held = false;
     }
 
+    // Whether the line begins with `#`.
+    fn is_comment(&self) -> bool
+        ensures { (l : List ℕ) → Makes self.now l → result ≡ (slice_index l 0 == 35) }
+    {
+        matches!(self.bytes.as_slice(), [b'#', ..])
+    }
+
     // The line, if it ends here.
     pub fn line(&self) -> Line<'_>
         ensures makes { (l : List ℕ) → Makes self.now l → shown result ≡ classified l }
         ensures holds { (l : List ℕ) → Holds self.now l → shown result ≡ classified (without_cr l) }
     {
+        if self.is_comment() {
+            return Line::Passed;
+        }
         match self.content {
-            Content::Blank | Content::Comment => Line::Passed,
+            Content::Blank => Line::Passed,
             Content::Readable => Line::Text(self.bytes.as_slice()),
             Content::Unfit => Line::Unreadable,
         }
