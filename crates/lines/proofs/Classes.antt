@@ -1,27 +1,45 @@
 -- What a buffer that makes a line tells of its class.
-use Rattle.std.proofs.Common.{◌≡◌, ℕ, ◌<◌, ◌≤◌, Bool, true, false, ◌||◌, eqb, leb, List, length, get_or, take, sym, refl, ap, ◌∙◌, arith}
+use Rattle.std.proofs.Common.{◌≡◌, ℕ, ◌<◌, Bool, true, false, cond, ◌||◌, eqb, leb, List, length, get_or, take, sym, refl, ap, ◌∙◌, arith, length-take}
 use Rattle.std.proofs.lemmas.List.{get_or-take, take_all}
-use Rattle.std.proofs.lemmas.Bool.{or_right, and_parts, leb-true, cond-true, cond-false}
+use Rattle.std.proofs.lemmas.Bool.{and_parts, leb-true}
+use Rattle.lines.specs.declared.line.Content.{Content}
+use Rattle.lines.specs.declared.line.Content.TheVariants.{Blank, Readable, Unfit}
 use Rattle.lines.specs.declared.line.LineBuffer.{LineBuffer}
 use Rattle.words.specs.Pieces.{every}
-use Rattle.lines.specs.Lines.{text_of, not_readable, space, printable, idle, is_readable, classified}
+use Rattle.lines.specs.Lines.{Class, passed_over, not_readable, text_of, space, printable, is_readable, classified}
 use Rattle.lines.specs.Buffers.{Makes}
 
-or_false : (a b : Bool) → b ≡ false → (a || b) ≡ a
-or_false true b e = refl
-or_false false b e = e
+abbrev pub class_of : Content → List ℕ → Class
+class_of Blank l = passed_over
+class_of Readable l = text_of l
+class_of Unfit l = not_readable
+
+sorted_class : (c s r : Bool) (l : List ℕ) → c ≡ false → class_of (cond s Blank (cond r Readable Unfit)) l ≡ cond (c || s) passed_over (cond r (text_of l) not_readable)
+sorted_class true s r l e = cc
+sorted_class false true r l e = refl
+sorted_class false false true l e = refl
+sorted_class false false false l e = refl
+
+sorted_readable : (s r : Bool) → Readable ≡ cond s Blank (cond r Readable Unfit) → r ≡ true
+sorted_readable true r e = cc
+sorted_readable false true e = refl
+sorted_readable false false e = cc
+
+comment_class : (c s : Bool) (k : Class) → c ≡ true → passed_over ≡ cond (c || s) passed_over k
+comment_class true s k e = refl
+comment_class false s k e = cc
+
+pub comment : (l : List ℕ) → eqb (get_or l 0 0) 35 ≡ true → passed_over ≡ classified l
+comment l e = comment_class _ (every space l) _ e
 
 module _ {b : LineBuffer} {l : List ℕ} (m : Makes b l) where
-  pub idle_blank : b.spaces ≡ true → true ≡ idle l
-  idle_blank e = sym (or_right (eqb (get_or l 0 0) 35) (every space l) (sym m.blank ∙ e))
+  pub class : (k : Content) → b.content ≡ k → eqb (get_or l 0 0) 35 ≡ false → class_of k l ≡ classified l
+  class k e other = ap (λ x. class_of x l) (sym e ∙ m.is) ∙ sorted_class _ (every space l) (is_readable l) l other
 
-  pub idle_first : b.spaces ≡ false → 0 < b.len → eqb (get_or b.bytes 0 0) 35 ≡ idle l
-  idle_first e h =
-      let first : get_or b.bytes 0 0 ≡ get_or l 0 0 = sym (get_or-take b.len b.bytes 0 0 h) ∙ ap (λ t. get_or t 0 0) m.front ∙ get_or-take 16384 l 0 0 (omega arith) in
-      ap (λ x. eqb x 35) first ∙ sym (or_false _ (every space l) (sym m.blank ∙ e))
+  pub whole : b.content ≡ Readable → b.bytes.items ≡ l
+  whole e =
+      let fits : is_readable l ≡ true = sorted_readable _ _ (sym e ∙ m.is) in
+      m.front ∙ take_all 16384 l (leb-true (length l) 16384 (and_parts (every printable l) (leb (length l) 16384) fits).1)
 
-  pub text_class : false ≡ idle l → b.readable ≡ true → text_of (take b.len b.bytes) ≡ classified l
-  text_class i r =
-      let fits : is_readable l ≡ true = sym m.fit ∙ r in
-      let short : length l ≤ 16384 = leb-true (length l) 16384 (and_parts (every printable l) (leb (length l) 16384) fits).1 in
-      ap text_of (m.front ∙ take_all 16384 l short) ∙ sym (cond-true (is_readable l) (text_of l) not_readable fits) ∙ sym (cond-false (idle l) _ _ (sym i))
+  pub first : get_or b.bytes.items 0 0 ≡ get_or l 0 0
+  first = ap (λ t. get_or t 0 0) m.front ∙ get_or-take 16384 l 0 0 (omega arith)

@@ -1,12 +1,14 @@
 -- What a buffer knows of a line when one more byte comes.
-use Rattle.std.proofs.Common.{◌≡◌, ℕ, ◌+◌, ◌<◌, ◌≤◌, min, Bool, true, false, ◌&&◌, eqb, ltb, leb, List, [], ◌∷◌, ◌++◌, length, take, set, sym, refl, ap, ◌∙◌, arith}
-use Rattle.std.proofs.lemmas.List.{length_push, take_all, take_more_set, take-append-le}
-use Rattle.std.proofs.lemmas.Bool.{ltb-true, le-leb}
+use Rattle.std.proofs.Common.{◌≡◌, ℕ, ◌+◌, ◌<◌, ◌≤◌, min, Bool, true, false, cond, ◌&&◌, eqb, ltb, leb, List, [], ◌∷◌, ◌++◌, length, get_or, take, Ok, Err, Result, IsOk, OnOk, OnErr, ◌↔◌, sym, refl, ap, ◌∙◌, arith, length-take}
+use Rattle.std.proofs.lemmas.List.{length_push, take_all, take-append-le}
+use Rattle.std.proofs.lemmas.Bool.{ltb-true, le-leb, eqb-true, ne_eqb, cond-false, and_parts, and_from}
 use Rattle.std.proofs.lemmas.Bool.Decides.{nat_tests}
-use Rattle.lines.specs.declared.line.LineBuffer.{LineBuffer}
+use Rattle.arrayvec.specs.ArrayVec.{ArrayVec, array_vec_len}
+use Rattle.lines.specs.declared.line.Content.{Content}
+use Rattle.lines.specs.declared.line.Content.TheVariants.{Blank, Readable, Unfit}
 use Rattle.words.specs.Pieces.{every}
 use Rattle.lines.specs.Lines.{space, printable, is_readable}
-use Rattle.lines.specs.Buffers.{Makes}
+use Rattle.lines.specs.Buffers.{content_of}
 
 and_assoc : (a b c : Bool) → (a && (b && c)) ≡ ((a && b) && c)
 and_assoc true b c = refl
@@ -20,16 +22,17 @@ pub every_push : (p : ℕ → Bool) (l : List ℕ) (b : ℕ) → every p (l ++ b
 every_push p [] b = and_true (p b)
 every_push p (x ∷ xs) b = ap (λ t. p x && t) (every_push p xs b) ∙ and_assoc (p x) (every p xs) (p b)
 
-pub front_push : (bytes l : List ℕ) (len b : ℕ) → length bytes ≡ 16384 → len < 16384 → take len bytes ≡ take 16384 l → len ≡ min 16384 (length l) →
-    take (len + 1) (set bytes len b) ≡ take 16384 (l ++ b ∷ [])
-front_push bytes l len b full h front count =
-    let lt : len < length bytes = omega arith in
-    let short : length l ≤ 16384 = omega arith in
+-- what a buffer keeps when one more byte comes, which it takes only where there is room
+pub front_push : {E : Type 0} (took : Result (Unit {0}) E) (old new : ArrayVec ℕ) (l : List ℕ) (b : ℕ) → old.items ≡ take 16384 l →
+    (IsOk took ↔ (array_vec_len old < 16384)) → OnOk took (new.items ≡ old.items ++ b ∷ []) → OnErr took (new ≡ old) → OnErr took (array_vec_len old ≡ 16384) →
+    new.items ≡ take 16384 (l ++ b ∷ [])
+front_push (Ok u) old new l b front room more same full =
+    let short : length l < 16384 = omega (arith, room.0 refl, ap length front, length-take 16384 l) in
     let fits : length (l ++ b ∷ []) ≤ 16384 = omega (arith, length_push l b) in
-    take_more_set bytes len b lt ∙ ap (λ t. t ++ b ∷ []) (front ∙ take_all 16384 l short) ∙ sym (take_all 16384 (l ++ b ∷ []) fits)
-
-pub front_full : (l : List ℕ) (len b : ℕ) → 16384 ≤ len → len ≡ min 16384 (length l) → take 16384 l ≡ take 16384 (l ++ b ∷ [])
-front_full l len b h count = let long : 16384 ≤ length l = omega arith in sym (take-append-le 16384 l (b ∷ []) long)
+    more ∙ ap (λ t. t ++ b ∷ []) (front ∙ take_all 16384 l (omega arith)) ∙ sym (take_all 16384 (l ++ b ∷ []) fits)
+front_push (Err e) old new l b front room more same full =
+    let long : 16384 ≤ length l = omega (arith, full, ap length front, length-take 16384 l) in
+    ap (λ v. v.items) same ∙ front ∙ sym (take-append-le 16384 l (b ∷ []) long)
 
 room : (e l p k : Bool) → (k ≡ true → l ≡ true) → ((e && l) && (p && k)) ≡ ((e && p) && k)
 room true true p k h = refl
@@ -46,17 +49,41 @@ readable_push l len b count =
     room (every printable l) (leb (length l) 16384) (printable b) (ltb len 16384) more
     ∙ ap (λ t. (every printable l && printable b) && t) here ∙ sym (ap (λ t. t && leb (length (l ++ b ∷ [])) 16384) (every_push printable l b))
 
--- what the flags of a buffer that makes l become at the byte v
-module _ {b : LineBuffer} {l : List ℕ} (m : Makes b l) (v : ℕ) where
-  pub count_room : b.len < 16384 → b.len + 1 ≡ min 16384 (length (l ++ v ∷ []))
-  count_room h = omega (arith, m.count, length_push l v)
+spaces_printable : (l : List ℕ) → every space l ≡ true → every printable l ≡ true
+spaces_printable [] h = refl
+spaces_printable (x ∷ xs) h =
+    let parts = and_parts (space x) (every space xs) h in
+    and_from _ _ (ap printable (eqb-true x 32 parts.0)) (spaces_printable xs parts.1)
 
-  pub count_full : 16384 ≤ b.len → b.len ≡ min 16384 (length (l ++ v ∷ []))
-  count_full h = omega (arith, m.count, length_push l v)
+abbrev sort : Bool → Bool → Content
+sort blank readable = cond blank Blank (cond readable Readable Unfit)
 
-  pub blank_push : (b.spaces && eqb v 32) ≡ every space (l ++ v ∷ [])
-  blank_push = ap (λ t. t && eqb v 32) m.blank ∙ sym (every_push space l v)
+-- what the content becomes with a byte that may be a space, and one that a text may have here
+abbrev next : Content → Bool → Bool → Content
+next Blank blank fits = cond blank Blank (cond fits Readable Unfit)
+next Readable blank fits = cond fits Readable Unfit
+next Unfit blank fits = Unfit
 
-  pub fit_push : (p : Bool) → p ≡ printable v → (b.readable && (p && ltb b.len 16384)) ≡ is_readable (l ++ v ∷ [])
-  fit_push p e =
-      ap (λ t. t && (p && ltb b.len 16384)) m.fit ∙ ap (λ t. is_readable l && (t && ltb b.len 16384)) e ∙ readable_push l b.len v m.count
+sorted : (s r blank fits : Bool) → (s ≡ true → fits ≡ true → r ≡ true) → next (sort s r) blank fits ≡ sort (s && blank) (r && fits)
+sorted true r true fits m = refl
+sorted true true false fits m = refl
+sorted true false false true m = let z = m refl refl in cc
+sorted true false false false m = refl
+sorted false true blank fits m = refl
+sorted false false blank fits m = refl
+
+-- the content of a line with one more byte, where `kept` of its bytes are kept
+module _ (k : Content) (l : List ℕ) (b kept : ℕ) (is : k ≡ content_of l) (count : kept ≡ min 16384 (length l)) where
+  goes_on : (j : Content) → k ≡ j → next j (eqb b 32) (printable b && ltb kept 16384) ≡ content_of (l ++ b ∷ [])
+  goes_on j e =
+      let fits = printable b && ltb kept 16384 in
+      let room : every space l ≡ true → fits ≡ true → is_readable l ≡ true =
+      λ s f. and_from _ _ (spaces_printable l s) (le-leb (length l) 16384 (omega (arith, count, ltb-true kept 16384 (and_parts (printable b) _ f).1))) in
+      ap (λ x. next x (eqb b 32) fits) (sym e ∙ is) ∙ sorted (every space l) (is_readable l) (eqb b 32) fits room
+      ∙ ap (λ t. sort t (is_readable l && fits)) (sym (every_push space l b)) ∙ ap (sort (every space (l ++ b ∷ []))) (readable_push l kept b count)
+
+  pub text_first : k ≡ Blank → (b ≡ 32 → ⊥) → cond (printable b && ltb kept 16384) Readable Unfit ≡ content_of (l ++ b ∷ [])
+  text_first e other = sym (cond-false _ _ _ (ne_eqb b 32 other)) ∙ goes_on Blank e
+
+  pub text_on : k ≡ Readable → cond (printable b && ltb kept 16384) Readable Unfit ≡ content_of (l ++ b ∷ [])
+  text_on e = goes_on Readable e

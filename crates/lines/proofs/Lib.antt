@@ -2,5 +2,4 @@ mod Returns
 mod Growth
 mod Classes
 mod Cuts
-mod Chunks
 mod Steps

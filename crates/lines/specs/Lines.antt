@@ -1,6 +1,7 @@
 -- The lines of an input, and what each of them is: passed over, unreadable or a text.
 use Rattle.std.specs.Prelude.{◌≡◌, ℕ, ◌+◌, ◌-◌, Bool, true, cond, ◌&&◌, ◌||◌, List, [], ◌∷◌, ◌++◌, length, take, drop, Some, None, Option, ◌==◌, nat_le, slice_index}
-use Rattle.std.specs.List.{prefix_len}
+use Rattle.std.specs.List.{position, before_first}
+use Rattle.std.specs.Option.{option_map}
 use Rattle.words.specs.Pieces.{every, some, other, pieces}
 
 -- what a line is
@@ -45,17 +46,20 @@ lines_in (p ∷ q ∷ ps) = without_cr p ∷ lines_in (q ∷ ps)
 abbrev pub lines_of : List ℕ → List (List ℕ)
 lines_of l = lines_in (pieces 10 l)
 
+abbrev pub is_lf : ℕ → Bool
+is_lf b = b == 10
+
 -- no byte of l is a line feed
 abbrev pub lf_free : List ℕ → Bool
 lf_free l = every (other 10) l
 
 -- the bytes before the first line feed of l, or all of l where it has none
 abbrev pub before_lf : List ℕ → List ℕ
-before_lf l = take (prefix_len (other 10) l) l
+before_lf l = before_first is_lf l
 
--- how many bytes l has up to its first line feed and with it
+-- how many bytes l has up to its first line feed and with it, where it has one
 abbrev pub through_lf : List ℕ → Option ℕ
-through_lf l = cond (lf_free l) None (Some (prefix_len (other 10) l + 1))
+through_lf l = option_map (λ i. i + 1) (position is_lf l)
 
 -- what the input does to a line that began with the bytes l: its first n bytes end the line and the others are of later lines,
 -- or it has no line feed, and the line goes on

@@ -1,12 +1,12 @@
 -- What a step of a line source does with the bytes that it had read and those that came in.
-use Rattle.std.specs.Prelude.{◌≡◌, ℕ, ◌+◌, ◌-◌, Bool, true, false, cond, List, [], ◌∷◌, ◌++◌, take, drop, Ok, Err, Result}
+use Rattle.std.specs.Prelude.{◌≡◌, ℕ, ◌+◌, Bool, true, false, cond, List, [], ◌∷◌, ◌++◌, Ok, Err, Result}
 use Rattle.lines.specs.declared.source.LineSource.{LineSource}
 use Rattle.lines.specs.Lines.{lines_of}
 use Rattle.lines.specs.Buffers.{Makes}
 
 -- the bytes that were read and are not yet part of a line
 abbrev pub unread : LineSource → List ℕ
-unread s = take (s.end - s.start) (drop s.start s.chunk)
+unread s = s.chunk
 
 -- nothing comes once the input has ended
 abbrev pub MayCome : LineSource → List ℕ → Type 0

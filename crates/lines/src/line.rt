@@ -3,7 +3,7 @@
 // A line ends at a line feed or at the end of the input. One carriage return right before the line
 // feed is dropped. What is left is passed over if it begins with `#` or has nothing but spaces;
 // otherwise it is unreadable if it is longer than LINE_LIMIT or has a byte outside printable ASCII.
-ghost use Rattle.std.specs.Prelude.{◌≤◌};
+use arrayvec::ArrayVec;
 
 mod buffer;
 
@@ -17,17 +17,23 @@ pub enum Line<'a> {
     Text(&'a [u8]),
 }
 
-// The line so far: its first LINE_LIMIT bytes, and what its other bytes matter for.
+// What the bytes of a line are so far.
+#[derive(Clone, Copy)]
+enum Content {
+    // no byte, or nothing but spaces
+    Blank,
+    // printable, and no more than LINE_LIMIT
+    Readable,
+    // neither
+    Unfit,
+}
+
+// The line so far.
 #[derive(Drop)]
 pub struct LineBuffer {
-    bytes: [u8; LINE_LIMIT],
-    // how many bytes are kept
-    len: usize,
-    // every byte is a space
-    spaces: bool,
-    // every byte is printable and kept
-    readable: bool,
+    // its first LINE_LIMIT bytes
+    bytes: ArrayVec<u8, LINE_LIMIT>,
+    content: Content,
     // a carriage return came last, and belongs to the line only if no line feed follows
     held: bool,
-    ghost within: { len ≤ 16384 },
 }

@@ -1,24 +1,20 @@
 // Lines of the standard input, one at a time, read by chunks of a fixed size.
-ghost use Rattle.std.specs.Prelude.{◌≡◌, ◌≤◌};
+ghost use Rattle.std.specs.Prelude.{◌≡◌};
 
 use crate::line::LineBuffer;
+use chunk::Chunk;
 
+mod chunk;
 mod reading;
 
-const CHUNK: usize = 32768;
-
-// chunk[start..end] is read and not yet part of a line.
 #[derive(Drop)]
 pub struct LineSource {
-    chunk: [u8; CHUNK],
-    start: usize,
-    end: usize,
+    // what is read and not yet part of a line
+    chunk: Chunk,
     // a read has found the end of the input
     ended: bool,
     buffer: LineBuffer,
     number: u64,
-    ghost ordered: { start ≤ end },
-    ghost within: { end ≤ 32768 },
 }
 
 impl LineSource {

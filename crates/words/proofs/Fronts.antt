@@ -1,19 +1,18 @@
--- The longest front of a list that passes a test: how a loop counts it, and what follows it.
-use Rattle.std.proofs.Common.{◌≡◌, ℕ, suc, ◌+◌, ◌<◌, ◌≤◌, Bool, true, false, cond, ◌&&◌, List, [], ◌∷◌, ◌++◌, length, get_or, take, drop, sym, refl, ap, ◌∙◌, subst, one-add, arith}
-use Rattle.std.proofs.lemmas.List.Sums.{prefix_len-drop_yes, prefix_len-drop_no, prefix_len-drop_all}
-use Rattle.std.proofs.lemmas.Bool.{and_from, and_parts, cond-true, true≢false}
-use Rattle.std.specs.List.{prefix_len}
+-- The longest front of a list that passes a test, and what follows it.
+use Rattle.std.proofs.Common.{◌≡◌, ℕ, suc, ◌+◌, ◌<◌, ◌≤◌, Bool, true, false, cond, not, ltb, ◌&&◌, Some, None, List, [], ◌∷◌, ◌++◌, length, get_or, take, drop, sym, refl, ap, ◌∙◌, subst, one-add, arith}
+use Rattle.std.proofs.lemmas.List.Sums.{prefix_len-le-length}
+use Rattle.std.proofs.lemmas.Bool.{ltb-false, and_from, and_parts, cond-true, true≢false}
+use Rattle.std.specs.Option.{unwrap_or}
+use Rattle.std.specs.List.{prefix_len, position, position_or_len}
 use Rattle.words.specs.Pieces.{every}
 
-module _ (p : ℕ → Bool) (xs : List ℕ) (i n : ℕ) (sofar : i + prefix_len p (drop i xs) ≡ n) where
-  pub leading_one_on : i < length xs → p (get_or xs i 0) ≡ true → i + 1 + prefix_len p (drop (i + 1) xs) ≡ n
-  leading_one_on h passes = omega (arith, prefix_len-drop_yes p xs i 0 h passes, sofar)
+found_or_len : (t : Bool) (k n : ℕ) → ltb k n ≡ t → k ≤ n → unwrap_or (cond t (Some k) None) n ≡ k
+found_or_len true k n e h = refl
+found_or_len false k n e h = omega (arith, ltb-false k n e)
 
-  pub leading_stops : i < length xs → p (get_or xs i 0) ≡ false → i ≡ n
-  leading_stops h fails = omega (arith, prefix_len-drop_no p xs i 0 h fails, sofar)
-
-  pub leading_whole : i ≤ length xs → length xs ≤ i → length xs ≡ n
-  leading_whole h all = omega (arith, prefix_len-drop_all p xs i all, sofar)
+-- the first place at which p passes, or the length where there is none
+pub first_or_len : (p : ℕ → Bool) (xs : List ℕ) → unwrap_or (position p xs) (length xs) ≡ position_or_len p xs
+first_or_len p xs = found_or_len (ltb (position_or_len p xs) (length xs)) _ _ refl (prefix_len-le-length (λ x. not (p x)) xs)
 
 front_past : (p : ℕ → Bool) (b : ℕ) (bs : List ℕ) (t : Bool) → p b ≡ t → prefix_len p (drop (prefix_len p bs) bs) ≡ 0 →
     prefix_len p (drop (cond t (1 + prefix_len p bs) 0) (b ∷ bs)) ≡ 0

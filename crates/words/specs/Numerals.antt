@@ -12,6 +12,9 @@ worth b =
 abbrev pub digit : ℕ → ℕ → Bool
 digit base b = nat_lt (worth b) base
 
+abbrev pub digit_of : ℕ → ℕ → Option ℕ
+digit_of base b = cond (digit base b) (Some (worth b)) None
+
 -- each digit has the weight of its place
 abbrev pub value : ℕ → List ℕ → ℕ
 value base [] = 0

@@ -1,32 +1,22 @@
 // The words of a text: the longest runs of bytes other than space.
-ghost use Rattle.std.specs.Prelude.{◌≡◌, [], ◌∷◌, MatchOption, nat_eq};
-ghost use Rattle.std.specs.List.{prefix_len};
+ghost use Rattle.std.specs.Prelude.{◌≡◌, [], ◌∷◌, MatchOption};
+ghost use Rattle.std.specs.List.{position};
 ghost use Rattle.std.specs.Str.{bytes_eq};
 ghost use Rattle.words.specs.Pieces.{other};
-ghost use Rattle.words.specs.Words.{words, first_word, after_word};
+ghost use Rattle.words.specs.Words.{words, is_space, first_word, after_word};
 
-// How many spaces `text` begins with.
-fn space_count(text: &[u8]) -> usize
-    ensures { result ≡ prefix_len (λ b. nat_eq b 32) text.now }
+// Where the first word of `text` begins.
+fn word_start(text: &[u8]) -> Option<usize>
+    ensures { result ≡ position (other 32) text.now }
 {
-    for (i, byte) in text.iter().enumerate() {
-        if *byte != b' ' {
-            return i;
-        }
-    }
-    text.len()
+    text.iter().position(|byte| *byte != b' ')
 }
 
-// How many bytes stand before the first space of `text`.
-fn word_length(text: &[u8]) -> usize
-    ensures { result ≡ prefix_len (other 32) text.now }
+// Where the first space of `text` stands.
+fn next_space(text: &[u8]) -> Option<usize>
+    ensures { result ≡ position is_space text.now }
 {
-    for (i, byte) in text.iter().enumerate() {
-        if *byte == b' ' {
-            return i;
-        }
-    }
-    text.len()
+    text.iter().position(|byte| *byte == b' ')
 }
 
 // The first word of `text` and what follows it, or none where `text` has no word.
@@ -34,23 +24,15 @@ pub fn split_word(text: &[u8]) -> Option<(&[u8], &[u8])>
     ensures words { MatchOption result (words text.now ≡ []) (λ p. words text.now ≡ p.0.now ∷ words p.1.now) }
     ensures parts { MatchOption result (first_word text.now ≡ []) (λ p. (p.0.now ≡ first_word text.now) × (p.1.now ≡ after_word text.now)) }
 {
-    let (_, rest) = text.split_at(space_count(text));
-    let length = word_length(rest);
-    if length == 0 {
-        return None;
-    }
+    let start = word_start(text)?;
+    let (_, rest) = text.split_at(start);
+    let length = next_space(rest).unwrap_or(rest.len());
     Some(rest.split_at(length))
-}
-
-fn same(a: &[u8], b: &[u8]) -> bool
-    ensures { result ≡ bytes_eq a.now b.now }
-{
-    a == b
 }
 
 // Whether `word` is that name.
 pub fn is_word(word: &[u8], name: &str) -> bool
     ensures { result ≡ bytes_eq word.now name.now }
 {
-    same(word, name.as_bytes())
+    word == name.as_bytes()
 }

@@ -1,15 +1,44 @@
 // How a line is put together byte by byte.
-ghost use Rattle.std.specs.Prelude.{◌≡◌, ℕ, false, List, [], ◌∷◌, ◌++◌};
+ghost use Rattle.std.specs.Prelude.{◌≡◌, ℕ, false, min, List, [], ◌∷◌, ◌++◌, ◌&&◌, ◌==◌, length, nat_lt, slice_index};
+ghost use Rattle.std.specs.List.{position};
 ghost use Rattle.words.specs.Pieces.{some};
-ghost use Rattle.lines.specs.Lines.{classified, idle, without_cr, before_lf, through_lf, printable, EndsLine};
-ghost use Rattle.lines.specs.Buffers.{shown, Makes, Holds};
+ghost use Rattle.lines.specs.Lines.{classified, without_cr, before_lf, through_lf, is_lf, printable, EndsLine};
+ghost use Rattle.lines.specs.Buffers.{shown, content_of, Makes, Holds};
 
-use super::{LINE_LIMIT, Line, LineBuffer};
+use super::{Content, LINE_LIMIT, Line, LineBuffer};
+use arrayvec::ArrayVec;
 
-fn is_printable(byte: u8) -> bool
-    ensures { result ≡ printable byte }
+// Whether a text goes on with `byte` after the `kept` bytes of it that were kept.
+fn fits(byte: u8, kept: usize) -> bool
+    ensures { result ≡ (printable byte && nat_lt kept 16384) }
 {
-    b' ' <= byte && byte <= b'~'
+    matches!(byte, b' '..=b'~') && kept < LINE_LIMIT
+}
+
+// Where the first line feed of `input` stands.
+fn line_feed(input: &[u8]) -> Option<usize>
+    ensures { result ≡ position is_lf input.now }
+{
+    input.iter().position(|byte| *byte == b'\n')
+}
+
+impl Content {
+    // What a line of this content becomes with one more byte, after the `kept` bytes of it that were kept.
+    fn with_byte(self, byte: u8, kept: usize) -> Content
+        ensures { (l : List ℕ) → self ≡ content_of l → kept ≡ min 16384 (length l) → result ≡ content_of (l ++ byte ∷ []) }
+    {
+        match self {
+            Content::Blank if byte == b' ' => Content::Blank,
+            Content::Blank | Content::Readable => {
+                if fits(byte, kept) {
+                    Content::Readable
+                } else {
+                    Content::Unfit
+                }
+            }
+            Content::Unfit => Content::Unfit,
+        }
+    }
 }
 
 impl LineBuffer {
@@ -17,25 +46,19 @@ impl LineBuffer {
         ensures { Holds result [] }
     {
         LineBuffer {
-            bytes: [0; LINE_LIMIT],
-            len: 0,
-            spaces: true,
-            readable: true,
+            bytes: ArrayVec::new(),
+            content: Content::Blank,
             held: false,
         }
     }
 
-    // Adds a byte to the line.
+    // Adds a byte to the line. One that does not fit is not kept.
     fn append(&mut self, byte: u8)
         ensures makes { (l : List ℕ) → Makes self.old l → Makes self.new (l ++ byte ∷ []) }
         ensures held { self.new.held ≡ self.old.held }
     {
-        self.spaces &= byte == b' ';
-        self.readable &= is_printable(byte) & (self.len < LINE_LIMIT);
-        if self.len < LINE_LIMIT {
-            self.bytes[self.len] = byte;
-            self.len += 1;
-        }
+        self.content = self.content.with_byte(byte, self.bytes.len());
+        let _ = self.bytes.try_push(byte);
     }
 
     // The carriage return that waits, if one does, belongs to the line.
@@ -68,20 +91,19 @@ impl LineBuffer {
         ensures holds { (l : List ℕ) → Holds self.old l → Holds self.new (l ++ before_lf input.now) }
         ensures lines { EndsLine input.now result }
     {
-        for (i, byte) in input.iter().enumerate() {
-            if *byte == b'\n' {
-                return Some(i + 1);
-            }
+        let end = line_feed(input);
+        let (line, _) = input.split_at(end.unwrap_or(input.len()));
+        for byte in line {
             self.push(*byte);
         }
-        None
+        end.map(|end| end + 1)
     }
 
     // Whether a byte of the line came.
     fn has_bytes(&self) -> bool
         ensures { (l : List ℕ) → Holds self.now l → result ≡ some l }
     {
-        self.len > 0 || self.held
+        !self.bytes.is_empty() || self.held
     }
 
     // The input ends here, with no line feed, so a carriage return at its end is kept. Answers whether
@@ -99,17 +121,16 @@ impl LineBuffer {
     pub fn clear(&mut self)
         ensures { Holds self.new [] }
     {
-        self.len = 0;
-        self.spaces = true;
-        self.readable = true;
+        self.bytes.clear();
+        self.content = Content::Blank;
         self.held = false;
     }
 
-    // Whether the line begins with `#` or has nothing but spaces.
-    fn is_idle(&self) -> bool
-        ensures { (l : List ℕ) → Makes self.now l → result ≡ idle l }
+    // Whether the line begins with `#`.
+    fn is_comment(&self) -> bool
+        ensures { (l : List ℕ) → Makes self.now l → result ≡ (slice_index l 0 == 35) }
     {
-        self.spaces || self.len > 0 && self.bytes[0] == b'#'
+        matches!(self.bytes.as_slice(), [b'#', ..])
     }
 
     // The line, if it ends here.
@@ -117,12 +138,13 @@ impl LineBuffer {
         ensures makes { (l : List ℕ) → Makes self.now l → shown result ≡ classified l }
         ensures holds { (l : List ℕ) → Holds self.now l → shown result ≡ classified (without_cr l) }
     {
-        if self.is_idle() {
-            Line::Passed
-        } else if self.readable {
-            Line::Text(&self.bytes[0..self.len])
-        } else {
-            Line::Unreadable
+        if self.is_comment() {
+            return Line::Passed;
+        }
+        match self.content {
+            Content::Blank => Line::Passed,
+            Content::Readable => Line::Text(self.bytes.as_slice()),
+            Content::Unfit => Line::Unreadable,
         }
     }
 }

@@ -5,10 +5,10 @@ ghost use Rattle.lines.specs.Buffers.{shown, Makes, Holds};
 ghost use Rattle.lines.specs.Sources.{unread, Stepped, counted};
 ghost use Rattle.lines.specs.Steps.{Took, Refilled};
 
-use super::{CHUNK, LineSource};
+use super::LineSource;
+use super::chunk::Chunk;
 use crate::line::{Line, LineBuffer};
 use std::io;
-use std::io::Read;
 
 impl LineSource {
     pub fn new() -> LineSource
@@ -17,9 +17,7 @@ impl LineSource {
         ensures number { result.number ≡ 0 }
     {
         LineSource {
-            chunk: [0; CHUNK],
-            start: 0,
-            end: 0,
+            chunk: Chunk::new(),
             ended: false,
             buffer: LineBuffer::new(),
             number: 0,
@@ -31,15 +29,13 @@ impl LineSource {
         ensures taken { Took self.old self.new result }
         ensures kept { (self.new.ended ≡ self.old.ended) × (self.new.number ≡ self.old.number) }
     {
-        let (start, end) = (self.start, self.end);
-        let all = &self.chunk[..];
-        match self.buffer.feed(&all[start..end]) {
-            Some(n) => {
-                self.start = start + n;
+        match self.buffer.feed(self.chunk.left()) {
+            Some(count) => {
+                self.chunk.take(count);
                 true
             }
             None => {
-                self.start = end;
+                self.chunk.clear();
                 false
             }
         }
@@ -50,14 +46,10 @@ impl LineSource {
         ensures filled { IfOk result (λ more. Refilled self.old self.new more) }
         ensures kept { (self.new.buffer ≡ self.old.buffer) × (self.new.number ≡ self.old.number) }
     {
-        if self.ended {
-            return Ok(false);
+        if !self.ended {
+            self.ended = self.chunk.fill(rt)? == 0;
         }
-        let n = rt.stdin().read(&mut self.chunk)?;
-        self.start = 0;
-        self.end = n;
-        self.ended = n == 0;
-        Ok(n > 0)
+        Ok(!self.ended)
     }
 
     // Puts the next line into the buffer, and answers whether there was one.

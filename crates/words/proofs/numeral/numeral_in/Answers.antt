@@ -11,7 +11,7 @@ loop-byte-preserved c = read_more _ _ _ _ c.loop-byte.invariant _ c.loop-byte-te
 
 pub returns-in_err-value : goal.returns-in_err-value
 returns-in_err-value c =
-    c.from_residual.ensures ∙ sym (read_refused _ _ _ _ c.loop-byte.invariant c.requires c.loop-byte-test.true (sym c.with_digit.ensures ∙ c.in_err-value.was))
+    c.from_residual.ensures ∙ sym (read_refused _ _ _ _ c.loop-byte.invariant c.requires.positive c.loop-byte-test.true (sym c.with_digit.ensures ∙ c.in_err-value.was))
 
 pub returns : goal.returns
 returns c = read_all _ _ _ _ c.loop-byte.invariant c.loop-byte-test.false (eqb-false _ 0 (sym c.if-is_empty.ensures))

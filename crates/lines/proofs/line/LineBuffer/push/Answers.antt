@@ -8,7 +8,7 @@ pub returns-then-byte-eq13 : goal.returns-then-byte-eq13
 returns-then-byte-eq13 c = λ l h.
     let is = eq-eqb c.args.byte 13 c.if-byte-eq13.true in
     let m = subst (Makes c.release.new.self) (sym (without_cr_push l c.args.byte ∙ cond-true _ _ _ is)) (c.release.ensures.makes l h) in
-    record { body = record { front = m.front; count = m.count; blank = m.blank; fit = m.fit }; waits = sym (ends_in_cr_push l c.args.byte ∙ is) }
+    record { body = record { front = m.front; is = m.is }; waits = sym (ends_in_cr_push l c.args.byte ∙ is) }
 
 pub returns-else-byte-eq13 : goal.returns-else-byte-eq13
 returns-else-byte-eq13 c = λ l h.

@@ -7,6 +7,6 @@ pub returns-then-self : goal.returns-then-self
 returns-then-self c = record {
   makes = λ l h.
       let m = subst (Makes c.append.new.self) (without_cr_back l (sym h.waits ∙ c.if-self.true)) (c.append.ensures.makes _ h.body) in
-      record { front = m.front; count = m.count; blank = m.blank; fit = m.fit };
+      record { front = m.front; is = m.is };
   none = refl;
 }

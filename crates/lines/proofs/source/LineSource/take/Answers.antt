@@ -1,43 +1,35 @@
-use Rattle.std.proofs.Common.{◌+◌, ◌≤◌, ◌∷◌, ◌++◌, sym, refl, ap, ◌∙◌, subst, arith}
+use Rattle.std.proofs.Common.{◌≡◌, true, ◌∷◌, ◌++◌, sym, refl, ap, ◌∙◌, subst}
 use Rattle.words.specs.Pieces.{other}
-use Rattle.lines.specs.Lines.{before_lf}
+use Rattle.lines.specs.Lines.{before_lf, through_lf, lf_free}
 use Rattle.lines.specs.Buffers.{Holds}
-use Rattle.lines.specs.Sources.{unread}
 use Rattle.words.proofs.Fronts.{every_front}
 use Rattle.lines.proofs.Cuts.{through_some, through_none, before_lf_free}
-use Rattle.lines.proofs.Chunks.{part_within, part_drop, part_none}
 use Rattle.lines.proofs.source.LineSource.take.Goals as goal
 
-within : (c : goal.In-Some) → c.args.self.now.start + c.in-Some.n ≤ c.args.self.now.end
-within c = part_within c.args.self.now.chunk _ _ _ (through_some _ _ c.in-Some.ensures.taken).within c.args.self.now.ordered
-
-pub overflow_add-self : goal.overflow_add-self
-overflow_add-self c = omega (arith, within c)
-
-pub invariant_of-self : goal.invariant_of-self
-invariant_of-self c = record { ordered = within c; within = c.args.self.now.within }
+pub take-requires : goal.take-requires
+take-requires c = (through_some c.args.self.now.chunk _ (sym c.in-Some.is ∙ c.feed.ensures.taken ∙ ap through_lf c.left.ensures)).within
 
 pub returns-in-Some : goal.returns-in-Some
 returns-in-Some c =
-    let s = c.args.self.now in
-    let t = through_some (unread s) c.in-Some.n c.in-Some.ensures.taken in
+    let left = c.args.self.now.chunk in
+    let cut = (through_some left _ (sym c.in-Some.is ∙ c.feed.ensures.taken ∙ ap through_lf c.left.ensures)).cut in
     record {
       taken = (
-        before_lf (unread s),
-        t.cut ∙ sym (ap (λ r. before_lf (unread s) ++ 10 ∷ r) (part_drop s.chunk s.start s.end c.in-Some.n t.within s.ordered)),
-        record { free = every_front (other 10) (unread s); holds = c.feed.ensures.holds },
+        before_lf left,
+        cut ∙ sym (ap (λ r. before_lf left ++ 10 ∷ r) c.take.ensures),
+        record { free = every_front (other 10) left; holds = λ l h. subst (λ r. Holds c.feed.new.self (l ++ before_lf r)) c.left.ensures (c.feed.ensures.holds l h) },
       );
       kept = (refl, refl);
     }
 
 pub returns-in-None : goal.returns-in-None
 returns-in-None c =
-    let s = c.args.self.now in
-    let free = through_none (unread s) c.in-None.ensures.taken in
+    let left = c.args.self.now.chunk in
+    let free : lf_free left ≡ true = through_none left (sym c.in-None.is ∙ c.feed.ensures.taken ∙ ap through_lf c.left.ensures) in
     record {
       taken = (
-        part_none s.chunk s.end,
-        record { free = free; holds = λ l h. subst (λ r. Holds c.feed.new.self (l ++ r)) (before_lf_free (unread s) free) (c.feed.ensures.holds l h) },
+        c.clear.ensures,
+        record { free = free; holds = λ l h. subst (λ r. Holds c.feed.new.self (l ++ r)) (ap before_lf c.left.ensures ∙ before_lf_free left free) (c.feed.ensures.holds l h) },
       );
       kept = (refl, refl);
     }
