@@ -4,6 +4,21 @@ use Rattle.std.proofs.lemmas.Bool.{cases_lt}
 use Rattle.skip_dimensions.specs.Degrees.{dimensions}
 use Rattle.skip_dimensions.specs.Refusals.{Report, limit, construction, construction_for}
 
+-- from six on, two to that power is at least 64
+pub power_cut : (b : ℕ) → 2 ^ min b 6 ≡ min (2 ^ b) 64
+power_cut b =
+    elim (cases_lt b 6) [
+      | inl h ↦
+          let e : min b 6 ≡ b = omega arith in
+          let o : b ≤ 6 = omega arith in
+          let p : 2 ^ b ≤ 64 = pow_mono o in
+          ap (λ (x : ℕ). 2 ^ x) e ∙ omega arith
+      | inr h ↦
+          let e : min b 6 ≡ 6 = omega arith in
+          let p : 64 ≤ 2 ^ b = pow_mono h in
+          ap (λ (x : ℕ). 2 ^ x) e ∙ omega arith
+    ]
+
 -- beyond 64 the number of bits makes no difference
 pub limit_cut : (b : ℕ) → limit (min b 64) ≡ limit b
 limit_cut b =

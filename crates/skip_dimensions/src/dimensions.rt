@@ -1,10 +1,10 @@
 // The numbers of a domain.
-ghost use Rattle.std.specs.Prelude.{◌≡◌, ℕ, ◌-◌, ◌*◌, ◌/◌, ◌^◌, ◌<◌, ◌≤◌, min, IfOk, Some};
+ghost use Rattle.std.specs.Prelude.{◌≡◌, ℕ, ◌-◌, ◌*◌, ◌/◌, ◌^◌, ◌<◌, ◌≤◌, min, true, IfOk, Some};
 ghost use Rattle.fields.specs.Tower.{width};
-ghost use Rattle.skip_dimensions.specs.Degrees.{dimensions};
+ghost use Rattle.skip_dimensions.specs.Degrees.{dimensions, admits, Fits};
 ghost use Rattle.skip_dimensions.specs.Refusals.{reported, limit, construction, construction_for};
 
-use crate::degree::dimensions_for_degree;
+use crate::degree;
 use crate::fault::SkipDomainError;
 use fields::tower::TowerLevel;
 
@@ -19,15 +19,16 @@ pub struct Dimensions {
 }
 
 // Number of points of that many dimensions.
+#[tactic(auto, using(crate::proofs::Degrees::shifted_one))]
 fn points(dimensions: usize) -> usize
     requires { dimensions < 64 }
-    ensures value { result ≡ 2 ^ dimensions }
-    ensures grows { (k : ℕ) → k ≤ dimensions → 2 ^ k ≤ result }
+    ensures { result ≡ 2 ^ dimensions }
 {
     1 << dimensions
 }
 
 // Number of basis elements of a field of 2^log_bits bits, 64 if more.
+#[tactic(auto, using(crate::proofs::Widths::power_cut))]
 fn basis_len(log_bits: u32) -> usize
     ensures { result ≡ min (2 ^ log_bits) 64 }
 {
@@ -81,12 +82,11 @@ impl Dimensions {
         ensures dimensions { IfOk result (λ d. (d.log_size ≡ log_size) × (Some d.log_extended ≡ dimensions log_size degree)) }
         ensures fits_field { IfOk result (λ d. d.log_extended ≤ limit log_bits) }
     {
-        let log_extended = dimensions_for_degree(log_size, degree).ok_or(
-            SkipDomainError::EmptyExtension {
-                log_size,
-                log_extended: log_size,
-            },
-        )?;
+        let empty = SkipDomainError::EmptyExtension {
+            log_size,
+            log_extended: log_size,
+        };
+        let log_extended = degree::dimensions_for_degree(log_size, degree).ok_or(empty)?;
         Dimensions::new(log_bits, log_size, log_extended)
     }
 
@@ -116,6 +116,14 @@ impl Dimensions {
         Dimensions::for_degree(F::log_bits() as u32, log_size, degree)
     }
 
+    // Whether the domain is wide enough for a rule of that degree. A degree that is admitted fits.
+    pub fn admits_degree(&self, degree: usize) -> bool
+        ensures value { result ≡ admits self.now.log_size self.now.log_extended degree }
+        ensures fits { result ≡ true → Fits self.now.log_size self.now.log_extended degree }
+    {
+        degree::admits_degree(self.log_size, self.log_extended, degree)
+    }
+
     // Number of points of the skipped subspace.
     pub fn size(&self) -> usize
         ensures { result ≡ 2 ^ self.now.log_size }
@@ -124,6 +132,7 @@ impl Dimensions {
     }
 
     // Number of points of the extension, no fewer than the subspace has.
+    #[tactic(auto, using(crate::proofs::Widths::size_bounds))]
     pub fn extended_size(&self) -> usize
         ensures value { result ≡ 2 ^ self.now.log_extended }
         ensures larger { 2 ^ self.now.log_size ≤ result }

@@ -1,8 +1,11 @@
 // Why a domain cannot be built or a buffer be used. `specs/Refusals.antt` has each case's number and values.
+ghost use Rattle.std.specs.Prelude.{Some};
 ghost use Rattle.skip_dimensions.specs.Refusals as table;
 
 use crate::refusal::Refusal;
 pub use crate::refusal::{Values, check_length};
+use std::error::Error;
+use std::fmt;
 
 // Reasons a skip domain cannot be built, or a buffer that is lent to it be used.
 #[derive(Clone, Copy, PartialEq, Eq, Debug)]
@@ -76,3 +79,45 @@ impl Refusal for SkipDomainError {
         }
     }
 }
+
+// The name of the cause, and each value after its own name.
+impl fmt::Display for SkipDomainError {
+    ghost output = { λ e. Some (table.text_of e) };
+
+    fn fmt<W: fmt::Write>(&self, f: &mut fmt::Formatter<W>) -> fmt::Result {
+        match self {
+            SkipDomainError::EmptyExtension {
+                log_size,
+                log_extended,
+            } => write!(
+                f,
+                "EmptyExtension: log_size {log_size}, log_extended {log_extended}"
+            ),
+            SkipDomainError::ExtensionTooWide {
+                log_extended,
+                limit,
+            } => write!(
+                f,
+                "ExtensionTooWide: log_extended {log_extended}, limit {limit}"
+            ),
+            SkipDomainError::ExtensionBeyondLimit { log_extended } => write!(
+                f,
+                "ExtensionBeyondLimit: log_extended {log_extended}"
+            ),
+            SkipDomainError::SubspaceTooNarrow { log_size } => write!(
+                f,
+                "SubspaceTooNarrow: log_size {log_size}"
+            ),
+            SkipDomainError::BufferLenMismatch {
+                place,
+                expected,
+                actual,
+            } => write!(
+                f,
+                "BufferLenMismatch: place {place}, expected {expected}, actual {actual}"
+            ),
+        }
+    }
+}
+
+impl Error for SkipDomainError {}

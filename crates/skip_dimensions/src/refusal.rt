@@ -1,6 +1,6 @@
 // What every error of a round has in common: its number in the table of refusals, and the values that it returns.
-ghost use Rattle.std.specs.Prelude.{◌≡◌, ℕ, List, [], ◌∷◌, OnOk};
-ghost use Rattle.skip_dimensions.specs.Refusals.{listed, reported_by, wrong_length};
+ghost use Rattle.std.specs.Prelude.{◌≡◌, ℕ, List, [], ◌∷◌, Some, OnOk};
+ghost use Rattle.skip_dimensions.specs.Refusals.{listed, spaced, reported_by, wrong_length};
 
 use std::fmt;
 
@@ -27,11 +27,14 @@ impl Values {
 
 // Each value after a space.
 impl fmt::Display for Values {
+    ghost output = { λ v. Some (spaced (listed v)) };
+
     fn fmt<W: fmt::Write>(&self, f: &mut fmt::Formatter<W>) -> fmt::Result {
-        for value in self.as_slice() {
-            write!(f, " {value}")?;
+        match self {
+            Values::One([a]) => write!(f, " {a}"),
+            Values::Two([a, b]) => write!(f, " {a} {b}"),
+            Values::Three([a, b, c]) => write!(f, " {a} {b} {c}"),
         }
-        Ok(())
     }
 }
 
