@@ -1,9 +1,11 @@
 -- The causes for which a domain is not built or a buffer not used, as the table of refusals lists them.
 -- A refusal is reported by its number and its values. The first cause that applies is the one reported.
-use Rattle.std.specs.Prelude.{ℕ, ◌^◌, min, cond, List, [], ◌∷◌, Some, None, Ok, Err, Option, Result, ◌==◌, nat_le, nat_lt}
+use Rattle.std.specs.Prelude.{ℕ, ◌^◌, min, cond, List, [], ◌∷◌, ◌++◌, codes, decimal, Some, None, Ok, Err, Option, Result, ◌==◌, nat_le, nat_lt}
 use Rattle.skip_dimensions.specs.Degrees.{dimensions}
 use Rattle.skip_dimensions.specs.declared.fault.SkipDomainError.{SkipDomainError}
 use Rattle.skip_dimensions.specs.declared.fault.SkipDomainError.TheVariants.{EmptyExtension, ExtensionTooWide, ExtensionBeyondLimit, SubspaceTooNarrow, BufferLenMismatch}
+use Rattle.skip_dimensions.specs.declared.refusal.Values.{Values}
+use Rattle.skip_dimensions.specs.declared.refusal.Values.TheVariants.{One, Two, Three}
 
 -- the number of each cause in the table
 abbrev pub number_of : SkipDomainError → ℕ
@@ -21,14 +23,37 @@ values_of (ExtensionBeyondLimit e) = e ∷ []
 values_of (SubspaceTooNarrow s) = s ∷ []
 values_of (BufferLenMismatch p e a) = p ∷ e ∷ a ∷ []
 
+-- how a cause is written: its name, and each value after its own
+abbrev pub text_of : SkipDomainError → List ℕ
+text_of (EmptyExtension s e) = codes "EmptyExtension: log_size " ++ (decimal s ++ (codes ", log_extended " ++ decimal e))
+text_of (ExtensionTooWide e l) = codes "ExtensionTooWide: log_extended " ++ (decimal e ++ (codes ", limit " ++ decimal l))
+text_of (ExtensionBeyondLimit e) = codes "ExtensionBeyondLimit: log_extended " ++ decimal e
+text_of (SubspaceTooNarrow s) = codes "SubspaceTooNarrow: log_size " ++ decimal s
+text_of (BufferLenMismatch p e a) = codes "BufferLenMismatch: place " ++ (decimal p ++ (codes ", expected " ++ (decimal e ++ (codes ", actual " ++ decimal a))))
+
 -- a refusal as it is reported: its number and its values
 abbrev pub Report : Type 0
 Report = ℕ × List ℕ
 
--- what a call that may refuse reports
+-- what a call that may refuse reports, for errors with these numbers and values
+abbrev pub reported_by : {X E : Type 0} → (E → ℕ) → (E → List ℕ) → Result X E → Option Report
+reported_by numbers values (Ok x) = None
+reported_by numbers values (Err f) = Some (numbers f, values f)
+
+-- what a call that may refuse a domain reports
 abbrev pub reported : {X : Type 0} → Result X SkipDomainError → Option Report
-reported (Ok x) = None
-reported (Err f) = Some (number_of f, values_of f)
+reported = reported_by number_of values_of
+
+-- the values of a refusal as they are handed out
+abbrev pub listed : Values → List ℕ
+listed (One items) = items
+listed (Two items) = items
+listed (Three items) = items
+
+-- how the values are written: each after a space
+abbrev pub spaced : List ℕ → List ℕ
+spaced [] = []
+spaced (n ∷ ns) = codes " " ++ (decimal n ++ spaced ns)
 
 -- the widest extension: one basis element for each dimension, of which a field of 2 ^ b bits has
 -- 2 ^ b, and no more than 63, so that a word counts its points
