@@ -1,6 +1,7 @@
 -- The points that a Cantor basis spans, in the level's field or in an extension: they differ, and phi applied k times
 -- is their vanishing polynomial (Cantor 1989).
-use Rattle.std.proofs.Common.{◌≡◌, ℕ, zero, suc, ◌+◌, ◌/◌, ◌^◌, ◌<◌, ◌≤◌, sym, refl, ap, ◌∙◌, ap₂, lt_of_lt_of_le, lt_of_le_of_lt, pow-suc, div-le_self, div-one, arith, pow_pos, pow_mono}
+use Rattle.std.proofs.Common.{◌≡◌, ℕ, zero, suc, ◌+◌, ◌/◌, ◌^◌, ◌<◌, ◌≤◌, fold, sym, refl, ap, ◌∙◌, ap₂, lt_of_lt_of_le, lt_of_le_of_lt, pow-suc, div-le_self, div-one, arith, pow_pos, pow_mono}
+use Rattle.std.specs.List.{range_with_len}
 use native.Mathlib.Nat.{div_self, div-eq_of_lt, div-div-eq-div-mul}
 use native.Mathlib.Decide.{ℕ_discrete}
 use lib.Bits.{bit_xor, xor_lt}
@@ -26,6 +27,15 @@ pub record Spanned {F : Type 0} (o : Operations F) (m : ℕ) (t : ℕ → F) : T
 
 pub points_spanned : {F : Type 0} {o : Operations F} {l : Level F} → FieldLaws o → LevelLaws o l → Spanned o (width l) (point o l)
 points_spanned L V = record { of_xor = point_xor L V; of_one = point_one L V; of_half = phi_point L V }
+
+-- phi applied once for each number of a range, as a fold over the range does
+phi_power_next : {F : Type 0} (o : Operations F) (k : ℕ) (x : F) → phi_power o k (phi o x) ≡ phi_power o (suc k) x
+phi_power_next o zero x = refl
+phi_power_next o (suc k) x = ap (phi o) (phi_power_next o k x)
+
+pub phi_power_fold : {F : Type 0} (o : Operations F) (n a : ℕ) (x : F) → fold (λ w r. phi o w) x (range_with_len a n) ≡ phi_power o n x
+phi_power_fold o zero a x = refl
+phi_power_fold o (suc n) a x = phi_power_fold o n (a + 1) (phi o x) ∙ phi_power_next o n x
 
 module _ {F : Type 0} {o : Operations F} (L : FieldLaws o) where
   open o use {zero as 𝟘, one as 𝟙, sum as ◌⊕◌, product as ◌⊗◌}

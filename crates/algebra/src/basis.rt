@@ -7,25 +7,10 @@ use fields::field::Field;
 use fields::tower::TowerLevel;
 
 // Element r of the basis, or zero where the basis has none.
-fn basis_or_zero<F: TowerLevel>(r: usize) -> F
+pub fn basis_or_zero<F: TowerLevel>(r: usize) -> F
     ensures { result ≡ basis_element_or_zero F.Field.ops F.TowerLevel.level r }
 {
-    match F::cantor_basis(r) {
-        Some(v) => v,
-        None => F::zero(),
-    }
-}
-
-// Adds element r of the basis where bit r of the index is set.
-fn with_bit<F: TowerLevel>(sum: F, index: usize, r: usize) -> F
-    requires { r < 64 }
-    ensures { result ≡ F.Field.ops.sum sum (if bit_set index r then basis_element_or_zero F.Field.ops F.TowerLevel.level r else F.Field.ops.zero) }
-{
-    if (index >> r) % 2 == 1 {
-        sum.sum(basis_or_zero::<F>(r))
-    } else {
-        sum.sum(F::zero())
-    }
+    F::cantor_basis(r).unwrap_or(F::zero())
 }
 
 // The point of an index: the sum of the basis elements at its set bits; a bit that has no basis
@@ -33,9 +18,7 @@ fn with_bit<F: TowerLevel>(sum: F, index: usize, r: usize) -> F
 pub fn point<F: TowerLevel>(index: usize) -> F
     ensures { result ≡ cantor_point F.Field.ops F.TowerLevel.level index }
 {
-    let mut point = F::zero();
-    for r in 0..64usize {
-        point = with_bit(point, index, r);
-    }
-    point
+    (0..64usize)
+        .filter(|r| index >> *r & 1 == 1)
+        .fold(F::zero(), |sum, r| sum.sum(basis_or_zero(r)))
 }

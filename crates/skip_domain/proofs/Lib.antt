@@ -1,4 +1,2 @@
-pub mod Places
 pub mod Spans
 pub mod Fills
-pub mod Constructions

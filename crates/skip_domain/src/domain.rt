@@ -9,9 +9,10 @@ ghost use Rattle.skip_dimensions.specs.Degrees.{extra, dimensions as dimensions_
 ghost use Rattle.skip_domain.specs.Domains.{Room, points_of, vanishing_of, transmitted_vanishing, ZeroExactlyOn};
 ghost use Rattle.skip_dimensions.specs.Refusals.{reported, construction, wrong_length, building, building_for};
 
-use crate::points::{fill_points, points_from};
-use crate::vanishing::{fill_vanishing, nonzero_points_product, vanishing_product};
-use algebra::basis;
+use crate::points::fill_points;
+use crate::vanishing::{fill_block, vanishing_poly};
+use algebra::basis::{self, basis_or_zero};
+use algebra::points_add;
 use fields::field::Field;
 use fields::tower::TowerLevel;
 use skip_dimensions::degree;
@@ -20,15 +21,15 @@ use skip_dimensions::fault::{SkipDomainError, check_length};
 use std::alloc::AllocError;
 use std::marker::PhantomData;
 
-// The numbers of a domain over F, which has room for its points. The points themselves stand in
-// buffers that the caller lends.
-pub struct SkipDomain<F> {
+// The numbers of a domain over F, which has a basis element for each dimension, so that its points
+// are different. The points themselves stand in buffers that the caller lends.
+pub struct SkipDomain<F: TowerLevel> {
     dimensions: Dimensions,
     field: PhantomData<F>,
-    ghost room: { Room F (2 ^ dimensions.log_extended) },
+    ghost within: { dimensions.log_extended ≤ width F.TowerLevel.level },
 }
 
-impl<F> Clone for SkipDomain<F> {
+impl<F: TowerLevel> Clone for SkipDomain<F> {
     ghost is_clone = { λ d c. c ≡ d };
 
     ghost is_infallible = { λ _. ⊤ };
@@ -38,38 +39,20 @@ impl<F> Clone for SkipDomain<F> {
     }
 }
 
-impl<F> Copy for SkipDomain<F> {}
-
-// A fact, called for what it promises: where F has room for the points of a domain, it has a basis
-// element for each dimension, so that the points are different.
-fn points_differ<F: TowerLevel>(domain: &SkipDomain<F>)
-    ensures within { domain.now.dimensions.log_extended ≤ width F.TowerLevel.level }
-    ensures different { Apart (2 ^ domain.now.dimensions.log_extended) (cantor_point F.Field.ops F.TowerLevel.level) }
-{}
-
-// The dimensions of a domain over F, which has room for its points; or the first cause of 1 to 4 why
-// there is none.
-fn dimensions_over<F: TowerLevel>(
-    log_size: usize,
-    log_extended: usize,
-) -> Result<Dimensions, SkipDomainError>
-    ensures refused { reported result ≡ construction F.TowerLevel.level.log_bits log_size log_extended }
-    ensures dimensions { IfOk result (λ d. (d.log_size ≡ log_size) × (d.log_extended ≡ log_extended)) }
-    ensures room { IfOk result (λ d. Room F (2 ^ d.log_extended)) }
-{
-    Dimensions::new(F::log_bits() as u32, log_size, log_extended)
-}
+impl<F: TowerLevel> Copy for SkipDomain<F> {}
 
 impl<F: TowerLevel> SkipDomain<F> {
-    // The domain by its numbers alone, for what is built without its points.
-    pub(crate) fn without_points(
-        log_size: usize,
-        log_extended: usize,
-    ) -> Result<SkipDomain<F>, SkipDomainError>
-        ensures refused { reported result ≡ construction F.TowerLevel.level.log_bits log_size log_extended }
-        ensures dimensions { IfOk result (λ d. (d.dimensions.log_size ≡ log_size) × (d.dimensions.log_extended ≡ log_extended)) }
+    // The domain of these dimensions, whose points are written into the buffer; a buffer of another
+    // length stays as it was. The points are different.
+    fn build(dimensions: Dimensions, points: &mut [F]) -> Result<SkipDomain<F>, SkipDomainError>
+        requires { dimensions.log_extended ≤ width F.TowerLevel.level }
+        ensures refused { reported result ≡ wrong_length 1 (2 ^ dimensions.log_extended) (length points.old) }
+        ensures dimensions { IfOk result (λ d. d.dimensions ≡ dimensions) }
+        ensures points { MatchResult result (λ _. points.new ≡ points_of F.Field.ops F.TowerLevel.level dimensions.log_extended) (λ _. points.new ≡ points.old) }
+        ensures different { IfOk result (λ d. Apart (2 ^ d.dimensions.log_extended) (cantor_point F.Field.ops F.TowerLevel.level)) }
     {
-        let dimensions = dimensions_over::<F>(log_size, log_extended)?;
+        check_length::<SkipDomainError>(1, dimensions.extended_size(), points.len())?;
+        fill_points(dimensions.log_extended, points);
         Ok(SkipDomain {
             dimensions,
             field: PhantomData,
@@ -89,11 +72,8 @@ impl<F: TowerLevel> SkipDomain<F> {
         ensures points { MatchResult result (λ _. points.new ≡ points_of F.Field.ops F.TowerLevel.level log_extended) (λ _. points.new ≡ points.old) }
         ensures different { IfOk result (λ d. Apart (2 ^ d.dimensions.log_extended) (cantor_point F.Field.ops F.TowerLevel.level)) }
     {
-        let domain = SkipDomain::without_points(log_size, log_extended)?;
-        points_differ(&domain);
-        check_length(1, domain.dimensions.extended_size(), points.len())?;
-        fill_points(log_extended, points);
-        Ok(domain)
+        let dimensions = Dimensions::over::<F>(log_size, log_extended)?;
+        SkipDomain::build(dimensions, points)
     }
 
     // The smallest domain that carries a rule of that degree.
@@ -107,13 +87,8 @@ impl<F: TowerLevel> SkipDomain<F> {
         ensures points { MatchResult result (λ d. points.new ≡ points_of F.Field.ops F.TowerLevel.level d.dimensions.log_extended) (λ _. points.new ≡ points.old) }
         ensures different { IfOk result (λ d. Apart (2 ^ d.dimensions.log_extended) (cantor_point F.Field.ops F.TowerLevel.level)) }
     {
-        match degree::dimensions_for_degree(log_size, degree) {
-            Some(log_extended) => SkipDomain::new(log_size, log_extended, points),
-            None => Err(SkipDomainError::EmptyExtension {
-                log_size,
-                log_extended: log_size,
-            }),
-        }
+        let dimensions = Dimensions::over_for_degree::<F>(log_size, degree)?;
+        SkipDomain::build(dimensions, points)
     }
 
     // Dimensions above the subspace that a rule of that degree needs; none for degree 0.
@@ -138,7 +113,7 @@ impl<F: TowerLevel> SkipDomain<F> {
         ensures value { result ≡ cantor_point F.Field.ops F.TowerLevel.level index }
         ensures adds { (b : ℕ) → cantor_point F.Field.ops F.TowerLevel.level (bit_xor index b) ≡ F.Field.ops.sum result (cantor_point F.Field.ops F.TowerLevel.level b) }
     {
-        let _ = algebra::points_add::<F>();
+        points_add::<F>();
         basis::point(index)
     }
 
@@ -162,8 +137,8 @@ impl<F: TowerLevel> SkipDomain<F> {
         ensures value { result ≡ self.now.dimensions.log_extended }
         ensures within { result ≤ width F.TowerLevel.level }
         ensures different { Apart (2 ^ result) (cantor_point F.Field.ops F.TowerLevel.level) }
+        ensures room { Room F (2 ^ result) }
     {
-        points_differ(self);
         self.dimensions.log_extended
     }
 
@@ -179,8 +154,9 @@ impl<F: TowerLevel> SkipDomain<F> {
         ensures refused { reported result ≡ wrong_length 1 (2 ^ self.now.dimensions.log_extended) (length points.now) }
         ensures part { IfOk result (λ s. s.now ≡ take (2 ^ self.now.dimensions.log_size) points.now) }
     {
-        check_length(1, self.dimensions.extended_size(), points.len())?;
-        Ok(&points[0..self.size()])
+        check_length::<SkipDomainError>(1, self.dimensions.extended_size(), points.len())?;
+        let (subspace, _) = points.split_at(self.size());
+        Ok(subspace)
     }
 
     // The transmitted points, in index order: the rest of the points buffer, as it stands.
@@ -188,8 +164,9 @@ impl<F: TowerLevel> SkipDomain<F> {
         ensures refused { reported result ≡ wrong_length 1 (2 ^ self.now.dimensions.log_extended) (length points.now) }
         ensures part { IfOk result (λ s. s.now ≡ drop (2 ^ self.now.dimensions.log_size) points.now) }
     {
-        check_length(1, self.dimensions.extended_size(), points.len())?;
-        Ok(points_from(points, self.size()))
+        check_length::<SkipDomainError>(1, self.dimensions.extended_size(), points.len())?;
+        let (_, transmitted) = points.split_at(self.size());
+        Ok(transmitted)
     }
 
     // The vanishing polynomial of the subspace at x: the product of x + s over its points s. It is
@@ -198,26 +175,34 @@ impl<F: TowerLevel> SkipDomain<F> {
         ensures value { result ≡ vanishing_of F.Field.ops F.TowerLevel.level self.now.dimensions.log_size x }
         ensures zeros { ZeroExactlyOn F.Field.ops (2 ^ self.now.dimensions.log_size) (cantor_point F.Field.ops F.TowerLevel.level) x result }
     {
-        vanishing_product(self.log_size(), x)
+        vanishing_poly(self.log_size(), x)
     }
 
     // Fills the output, one element for each transmitted point, with the vanishing polynomial at
-    // that point; an output of another length stays as it was.
+    // that point; an output of another length stays as it was. Points that differ by a point of the
+    // subspace have one value, so each block of 2^log_size has one.
     pub fn vanishing_on_transmitted(&self, output: &mut [F]) -> Result<(), SkipDomainError>
         ensures refused { reported result ≡ wrong_length 4 (2 ^ self.now.dimensions.log_extended - 2 ^ self.now.dimensions.log_size) (length output.old) }
         ensures output { MatchResult result (λ _. output.new ≡ transmitted_vanishing F.Field.ops F.TowerLevel.level self.now.dimensions.log_size self.now.dimensions.log_extended) (λ _. output.new ≡ output.old) }
     {
-        check_length(4, self.num_transmitted(), output.len())?;
-        fill_vanishing(self.log_size(), self.log_extended(), output);
+        check_length::<SkipDomainError>(4, self.num_transmitted(), output.len())?;
+        let size = self.size();
+        for block in 0..output.len() / size {
+            let value = self.vanishing(Self::point((block + 1) * size));
+            fill_block(output, block * size, size, value);
+        }
         Ok(())
     }
 
     // The value of the vanishing polynomial's derivative on every point of the subspace: the product
-    // of the nonzero ones. It is one.
+    // of the nonzero ones. It is one. Dimension r adds the points v_r + s for the points s of the r
+    // dimensions below, and their product is the vanishing polynomial of these at v_r.
     pub fn derivative_on_subspace(&self) -> F
         ensures value { result ≡ nonzero_product F.Field.ops (2 ^ self.now.dimensions.log_size) (cantor_point F.Field.ops F.TowerLevel.level) }
         ensures one { result ≡ F.Field.ops.one }
     {
-        nonzero_points_product(self.log_size())
+        (0..self.log_size()).fold(F::one(), |product, r| {
+            product.product(vanishing_poly(r, basis_or_zero(r)))
+        })
     }
 }

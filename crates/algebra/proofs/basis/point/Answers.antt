@@ -1,21 +1,19 @@
-use Rattle.std.proofs.Common.{◌≡◌, ℕ, ◌+◌, cond, sym, ap, ◌∙◌, add-one, arith}
-use Rattle.fields.specs.Field.{Operations}
+use Rattle.std.proofs.Common.{◌/◌, ◌^◌, eqb, sym, ◌∙◌, arith, rules, tests}
+use Rattle.std.proofs.iter.Yields.{nat_range_steps}
+use Rattle.std.proofs.lemmas.Iterator.{YieldsList-from_range}
+use Rattle.std.proofs.lemmas.Iterator.Consumers.{YieldsList-from_filter, fold_from_yields_List}
+use Rattle.std.specs.Iterator.Adapters.{filter_steps}
+use lib.Bits.{bit_and}
 use Rattle.algebra.specs.Points.{basis_element_or_zero}
-use Rattle.algebra.specs.Sums.{bit_sum, bit_set}
+use Rattle.algebra.proofs.BitSums.{bit_sum_fold}
 use Rattle.algebra.proofs.Points.{point_bits}
 use Rattle.algebra.proofs.basis.point.Goals as goal
 
--- one bit more
-more : {F : Type 0} (o : Operations F) (v : ℕ → F) (j r : ℕ) (s t : F) → s ≡ bit_sum o r v j → t ≡ o.sum s (cond (bit_set j r) (v r) o.zero) →
-    t ≡ bit_sum o (r + 1) v j
-more o v j r s t p q = q ∙ ap (λ x. o.sum x (cond (bit_set j r) (v r) o.zero)) p ∙ ap (λ n. bit_sum o n v j) (sym (add-one r))
-
-pub loop-r-preserved : goal.loop-r-preserved
-loop-r-preserved g c =
-    more g.F.Field.ops (basis_element_or_zero g.F.Field.ops g.F.TowerLevel.level) c.args.index c.loop-r.r c.loop-r.point _ c.loop-r.invariant c.with_bit-point.ensures
-
 pub returns : goal.returns
 returns g c =
-    let all : c.loop-r.r ≡ 64 = omega arith in
-    c.loop-r.invariant ∙ ap (λ n. bit_sum g.F.Field.ops n (basis_element_or_zero g.F.Field.ops g.F.TowerLevel.level) c.args.index) all
-    ∙ sym (point_bits g.met.F.Field.laws g.met.F.TowerLevel.tower 64 c.args.index (omega arith))
+    let L = g.met.F.Field.laws in
+    let v = basis_element_or_zero g.F.Field.ops g.F.TowerLevel.level in
+    fold_from_yields_List {steps = filter_steps nat_range_steps _} {s = c.filter.result} _ (λ s r. g.F.Field.ops.sum s (v r)) c.zero.result c.fold.result c.fold.ensures.ran
+    (YieldsList-from_filter _ (λ r. eqb (bit_and (c.args.index / 2 ^ r) 1) 1) (YieldsList-from_range 0 64 64 c.filter.ensures.source (omega arith)) c.filter.ensures.closure (λ x b q k. search (rules, tests)))
+    (λ s r t q k. search rules)
+    ∙ bit_sum_fold L 64 v c.args.index c.zero.result c.zero.ensures ∙ sym (point_bits L g.met.F.TowerLevel.tower 64 c.args.index (omega arith))

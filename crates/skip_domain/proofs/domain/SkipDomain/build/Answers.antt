@@ -1,0 +1,7 @@
+use Rattle.algebra.proofs.Spans.{points_spanned, spanned_apart}
+use Rattle.skip_domain.proofs.domain.SkipDomain.build.Goals as goal
+
+pub returns-clause-different : goal.returns-clause-different
+returns-clause-different g c =
+    let L = g.met.F.Field.laws in
+    spanned_apart L (points_spanned L g.met.F.TowerLevel.tower) c.args.dimensions.log_extended c.requires
