@@ -17,3 +17,14 @@ calculated o l (Solve x) = Element (l.solve x)
 calculated o l Top = Element (Some l.top)
 calculated o l (Basis j) = Element (cantor o l j)
 calculated o l (Point j) = Element (Some (point o l j))
+
+-- the same question about f of each element
+abbrev pub mapped : {E F : Type 0} → (E → F) → Question E → Question F
+mapped f (Sum x y) = Sum (f x) (f y)
+mapped f (Product x y) = Product (f x) (f y)
+mapped f (Equal x y) = Equal (f x) (f y)
+mapped f (Inverse x) = Inverse (f x)
+mapped f (Solve x) = Solve (f x)
+mapped f Top = Top
+mapped f (Basis j) = Basis j
+mapped f (Point j) = Point j

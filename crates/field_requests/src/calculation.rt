@@ -1,6 +1,7 @@
 // The answers of the field interfaces, for any level.
-ghost use Rattle.std.specs.Prelude.{◌≡◌};
-ghost use Rattle.field_requests.specs.Calculations.{calculated};
+ghost use Rattle.std.specs.Prelude.{◌≡◌, ◌%◌, ◌^◌};
+ghost use Rattle.fields.specs.Tower.{width};
+ghost use Rattle.field_requests.specs.Calculations.{calculated, mapped};
 
 use algebra::basis::point;
 use fields::byte::Byte;
@@ -8,14 +9,14 @@ use fields::extension::ExtensionField;
 use fields::field::Field;
 use fields::tower::TowerLevel;
 
-// A question about a field.
+// A question to a field, about its elements or about their numbers.
 #[derive(Clone, Copy)]
-pub enum Question<F> {
-    Sum(F, F),
-    Product(F, F),
-    Equal(F, F),
-    Inverse(F),
-    Solve(F),
+pub enum Question<E> {
+    Sum(E, E),
+    Product(E, E),
+    Equal(E, E),
+    Inverse(E),
+    Solve(E),
     Top,
     Basis(usize),
     Point(usize),
@@ -28,6 +29,31 @@ pub enum Answer<F> {
     Truth(bool),
 }
 
+// The element with that number, cut to the field's width.
+pub fn element<F: TowerLevel>(number: u64) -> F
+    ensures { F.TowerLevel.level.number result ≡ number % 2 ^ width F.TowerLevel.level }
+{
+    F::from_number(u128::from(number))
+}
+
+impl Question<u64> {
+    // The question about the elements with these numbers.
+    pub fn in_field<F: TowerLevel>(self) -> Question<F>
+        ensures { mapped F.TowerLevel.level.number result ≡ mapped (λ n. n % 2 ^ width F.TowerLevel.level) self }
+    {
+        match self {
+            Question::Sum(x, y) => Question::Sum(element(x), element(y)),
+            Question::Product(x, y) => Question::Product(element(x), element(y)),
+            Question::Equal(x, y) => Question::Equal(element(x), element(y)),
+            Question::Inverse(x) => Question::Inverse(element(x)),
+            Question::Solve(x) => Question::Solve(element(x)),
+            Question::Top => Question::Top,
+            Question::Basis(j) => Question::Basis(j),
+            Question::Point(j) => Question::Point(j),
+        }
+    }
+}
+
 // What the field answers.
 pub fn calculate<F: TowerLevel>(question: Question<F>) -> Answer<F>
     ensures { result ≡ calculated F.Field.ops F.TowerLevel.level question }
@@ -35,7 +61,7 @@ pub fn calculate<F: TowerLevel>(question: Question<F>) -> Answer<F>
     match question {
         Question::Sum(x, y) => Answer::Element(Some(x.sum(y))),
         Question::Product(x, y) => Answer::Element(Some(x.product(y))),
-        Question::Equal(x, y) => Answer::Truth(x.equals(y)),
+        Question::Equal(x, y) => Answer::Truth(x == y),
         Question::Inverse(x) => Answer::Element(x.inverse()),
         Question::Solve(x) => Answer::Element(x.solve()),
         Question::Top => Answer::Element(Some(F::top())),
