@@ -27,7 +27,7 @@ impl Generator {
         ensures { result ≢ F.Field.ops.zero }
     {
         let x = F::from_number(self.number() as u128);
-        if x.equals(F::zero()) { F::one() } else { x }
+        if x == F::zero() { F::one() } else { x }
     }
 
     pub(crate) fn elements<F: TowerLevel>(
