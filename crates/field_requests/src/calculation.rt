@@ -1,13 +1,15 @@
 // The answers of the field interfaces, for any level.
-ghost use Rattle.std.specs.Prelude.{◌≡◌, ◌%◌, ◌^◌};
+ghost use Rattle.std.specs.Prelude.{◌≡◌, ◌%◌, ◌^◌, Some};
 ghost use Rattle.fields.specs.Tower.{width};
-ghost use Rattle.field_requests.specs.Calculations.{calculated, mapped};
+ghost use Rattle.field_requests.specs.Calculations.{calculated, mapped, answer_text};
 
 use algebra::basis::point;
 use fields::byte::Byte;
 use fields::extension::ExtensionField;
 use fields::field::Field;
+use fields::text::Hexadecimal;
 use fields::tower::TowerLevel;
+use std::fmt;
 
 // A question to a field, about its elements or about their numbers.
 #[derive(Clone, Copy)]
@@ -27,6 +29,18 @@ pub enum Question<E> {
 pub enum Answer<F> {
     Element(Option<F>),
     Truth(bool),
+}
+
+impl<F: TowerLevel> fmt::Display for Answer<F> {
+    ghost output = { λ answer. Some (answer_text F.TowerLevel.level answer) };
+
+    fn fmt<W: fmt::Write>(&self, f: &mut fmt::Formatter<W>) -> fmt::Result {
+        match self {
+            Answer::Element(Some(x)) => write!(f, "{}", Hexadecimal(*x)),
+            Answer::Element(None) => f.write_str("none"),
+            Answer::Truth(same) => write!(f, "{same}"),
+        }
+    }
 }
 
 // The element with that number, cut to the field's width.
