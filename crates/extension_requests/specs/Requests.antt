@@ -1,27 +1,32 @@
 -- What the words of a line ask for: `domain FIELD log_size log_extended`, `row HEX`, or neither.
 use Rattle.std.specs.Prelude.{ℕ, cond, List, [], ◌∷◌, Some, None, codes, Option}
-use Rattle.std.specs.Borrow.{Bor}
 use Rattle.std.specs.Option.{option_map}
 use Rattle.std.specs.Str.{bytes_eq}
 use Rattle.words.specs.Numerals.{decimal_of}
+use Rattle.extension_requests.specs.declared.request.Domain.{Domain}
 use Rattle.extension_requests.specs.declared.request.FieldName.{FieldName}
 use Rattle.extension_requests.specs.declared.request.FieldName.TheVariants as field
 use Rattle.extension_requests.specs.declared.request.Request.{Request}
 use Rattle.extension_requests.specs.declared.request.Request.TheVariants as request
 
--- a domain by its field and dimensions, the digits of a row, or anything else
+-- a domain by its field and dimensions, or the digits of a row
 pub data Asked : Type 0 where
-  domain : FieldName → ℕ → ℕ → Asked
+  domain : Domain → Asked
   row : List ℕ → Asked
-  unknown : Asked
 
-abbrev pub shown : Request → Asked
-shown (request.Domain f s e) = domain f s e
-shown (request.Row d) = row d.now
-shown request.Unknown = unknown
+abbrev pub asked_by : Request → Asked
+asked_by (request.Domain d) = domain d
+asked_by (request.Row d) = row d.now
 
-abbrev pub shown_digits : Option (Bor (List ℕ)) → Option (List ℕ)
-shown_digits o = option_map (λ d. d.now) o
+abbrev pub shown : Option Request → Option Asked
+shown r = option_map asked_by r
+
+-- the name of a field on a line
+abbrev pub field_name : FieldName → List ℕ
+field_name field.Byte = codes "8"
+field_name field.Bits16 = codes "16"
+field_name field.Bits32 = codes "32"
+field_name field.Pile4 = codes "p4"
 
 abbrev pub named_field : List ℕ → Option FieldName
 named_field w =
@@ -30,13 +35,13 @@ named_field w =
     (cond (bytes_eq w (codes "32")) (Some field.Bits32)
     (cond (bytes_eq w (codes "p4")) (Some field.Pile4) None)))
 
-abbrev pub joined : Option FieldName → Option ℕ → Option ℕ → Option (FieldName × ℕ × ℕ)
+abbrev pub joined : Option FieldName → Option ℕ → Option ℕ → Option Domain
 joined None s e = None
 joined (Some f) None e = None
 joined (Some f) (Some s) None = None
-joined (Some f) (Some s) (Some e) = Some (f, s, e)
+joined (Some f) (Some s) (Some e) = Some (record { field = f; log_size = s; log_extended = e })
 
-abbrev pub domain_written : List (List ℕ) → Option (FieldName × ℕ × ℕ)
+unfoldable pub domain_written : List (List ℕ) → Option Domain
 domain_written [] = None
 domain_written (f ∷ []) = None
 domain_written (f ∷ s ∷ []) = None
@@ -48,16 +53,9 @@ only_word [] = None
 only_word (d ∷ []) = Some d
 only_word (d ∷ w ∷ ws) = None
 
-abbrev pub domain_asked : Option (FieldName × ℕ × ℕ) → Asked
-domain_asked None = unknown
-domain_asked (Some d) = domain d.0 d.1 d.2
-
-abbrev pub row_asked : Option (List ℕ) → Asked
-row_asked None = unknown
-row_asked (Some d) = row d
-
-abbrev pub requested : List (List ℕ) → Asked
-requested [] = unknown
+-- what the words of a line ask for
+abbrev pub requested : List (List ℕ) → Option Asked
+requested [] = None
 requested (w ∷ ws) =
-    cond (bytes_eq w (codes "domain")) (domain_asked (domain_written ws))
-    (cond (bytes_eq w (codes "row")) (row_asked (only_word ws)) unknown)
+    cond (bytes_eq w (codes "domain")) (option_map domain (domain_written ws))
+    (cond (bytes_eq w (codes "row")) (option_map row (only_word ws)) None)

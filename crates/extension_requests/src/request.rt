@@ -1,10 +1,11 @@
 // What a line asks for: a domain, or a row to extend.
-ghost use Rattle.std.specs.Prelude.{◌≡◌};
+ghost use Rattle.std.specs.Prelude.{◌≡◌, [], ◌∷◌, Some, MatchOption};
 ghost use Rattle.words.specs.Words.{words};
-ghost use Rattle.extension_requests.specs.Requests.{named_field, shown, shown_digits, domain_written, only_word, requested};
+ghost use Rattle.extension_requests.specs.Requests.{named_field, field_name, shown, domain_written, only_word, requested};
 
+use std::fmt;
 use words::numeral::decimal;
-use words::word::{is_word, split_word};
+use words::word::split_word;
 
 // The fields by their names on a line: 8, 16, 32, and p4 for two pairs over Bit.
 #[derive(Clone, Copy)]
@@ -15,85 +16,77 @@ pub enum FieldName {
     Pile4,
 }
 
-// A domain by its field and its dimensions, or the digits of a row.
+// A domain by its field and its dimensions.
+#[derive(Clone, Copy)]
+pub struct Domain {
+    pub field: FieldName,
+    pub log_size: u64,
+    pub log_extended: u64,
+}
+
+// A domain to open, or the digits of a row.
 #[derive(Clone, Copy)]
 pub enum Request<'a> {
-    Domain {
-        field: FieldName,
-        log_size: u64,
-        log_extended: u64,
-    },
+    Domain(Domain),
     Row(&'a [u8]),
-    Unknown,
+}
+
+impl fmt::Display for FieldName {
+    ghost output = { λ f. Some (field_name f) };
+
+    fn fmt<W: fmt::Write>(&self, f: &mut fmt::Formatter<W>) -> fmt::Result {
+        f.write_str(match self {
+            FieldName::Byte => "8",
+            FieldName::Bits16 => "16",
+            FieldName::Bits32 => "32",
+            FieldName::Pile4 => "p4",
+        })
+    }
 }
 
 fn field_named(word: &[u8]) -> Option<FieldName>
     ensures { result ≡ named_field word.now }
 {
-    if is_word(word, "8") {
-        return Some(FieldName::Byte);
+    match word {
+        b"8" => Some(FieldName::Byte),
+        b"16" => Some(FieldName::Bits16),
+        b"32" => Some(FieldName::Bits32),
+        b"p4" => Some(FieldName::Pile4),
+        _ => None,
     }
-    if is_word(word, "16") {
-        return Some(FieldName::Bits16);
-    }
-    if is_word(word, "32") {
-        return Some(FieldName::Bits32);
-    }
-    if is_word(word, "p4") {
-        return Some(FieldName::Pile4);
-    }
-    None
+}
+
+// The word of a text that has no other, or none where there is another number of them.
+fn single_word(text: &[u8]) -> Option<&[u8]>
+    ensures { MatchOption result (only_word (words text.now) ≡ None) (λ word. words text.now ≡ word.now ∷ []) }
+{
+    let (word, rest) = split_word(text)?;
+    split_word(rest).is_none().then_some(word)
 }
 
 // The field and the two dimensions that follow `domain`, if they and nothing else do.
-fn domain_of(rest: &[u8]) -> Option<(FieldName, u64, u64)>
+#[tactic(auto, unfolding(crate::specs::Requests::domain_written))]
+fn domain_of(rest: &[u8]) -> Option<Domain>
     ensures { result ≡ domain_written (words rest.now) }
 {
     let (field, rest) = split_word(rest)?;
     let (log_size, rest) = split_word(rest)?;
-    let (log_extended, rest) = split_word(rest)?;
-    if split_word(rest).is_some() {
-        return None;
-    }
-    let field = field_named(field)?;
-    let log_size = decimal(log_size)?;
-    let log_extended = decimal(log_extended)?;
-    Some((field, log_size, log_extended))
+    let log_extended = single_word(rest)?;
+    Some(Domain {
+        field: field_named(field)?,
+        log_size: decimal(log_size)?,
+        log_extended: decimal(log_extended)?,
+    })
 }
 
-// The one word that follows `row`, or none where there is another number of them.
-fn digits_of(rest: &[u8]) -> Option<&[u8]>
-    ensures { shown_digits result ≡ only_word (words rest.now) }
-{
-    let (digits, rest) = split_word(rest)?;
-    match split_word(rest) {
-        None => Some(digits),
-        Some(_) => None,
-    }
-}
-
-// What a line asks for.
-pub fn read_request(text: &[u8]) -> Request<'_>
+// What a line asks for, or none where it is no request.
+pub fn read_request(text: &[u8]) -> Option<Request<'_>>
     ensures { shown result ≡ requested (words text.now) }
 {
-    let Some((word, rest)) = split_word(text) else {
-        return Request::Unknown;
-    };
-    if is_word(word, "domain") {
-        return match domain_of(rest) {
-            Some((field, log_size, log_extended)) => Request::Domain {
-                field,
-                log_size,
-                log_extended,
-            },
-            None => Request::Unknown,
-        };
+    let (word, rest) = split_word(text)?;
+    match word {
+        b"domain" => Some(Request::Domain(domain_of(rest)?)),
+        b"row" => Some(Request::Row(single_word(rest)?)),
+        _ => None,
     }
-    if is_word(word, "row") {
-        return match digits_of(rest) {
-            Some(digits) => Request::Row(digits),
-            None => Request::Unknown,
-        };
-    }
-    Request::Unknown
 }

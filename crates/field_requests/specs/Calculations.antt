@@ -1,6 +1,7 @@
 -- What a level answers, by the operations of its field, its solutions and its Cantor basis.
-use Rattle.std.specs.Prelude.{Some}
+use Rattle.std.specs.Prelude.{ℕ, true, false, List, Some, None, codes}
 use Rattle.fields.specs.Field.{Operations}
+use Rattle.fields.specs.Text.{hexadecimal}
 use Rattle.fields.specs.Tower.{Level, cantor}
 use Rattle.algebra.specs.Points.{point}
 use Rattle.field_requests.specs.declared.calculation.Answer.{Answer}
@@ -17,3 +18,21 @@ calculated o l (Solve x) = Element (l.solve x)
 calculated o l Top = Element (Some l.top)
 calculated o l (Basis j) = Element (cantor o l j)
 calculated o l (Point j) = Element (Some (point o l j))
+
+-- the same question about f of each element
+abbrev pub mapped : {E F : Type 0} → (E → F) → Question E → Question F
+mapped f (Sum x y) = Sum (f x) (f y)
+mapped f (Product x y) = Product (f x) (f y)
+mapped f (Equal x y) = Equal (f x) (f y)
+mapped f (Inverse x) = Inverse (f x)
+mapped f (Solve x) = Solve (f x)
+mapped f Top = Top
+mapped f (Basis j) = Basis j
+mapped f (Point j) = Point j
+
+-- an element in hexadecimal digits, or none; whether two elements are the same
+abbrev pub answer_text : {F : Type 0} → Level F → Answer F → List ℕ
+answer_text l (Element (Some x)) = hexadecimal l x
+answer_text l (Element None) = codes "none"
+answer_text l (Truth true) = codes "true"
+answer_text l (Truth false) = codes "false"

@@ -1,10 +1,13 @@
 // What a line asks for: a field, an operation, and its operands.
-ghost use Rattle.std.specs.Prelude.{◌≡◌, ◌^◌, ◌≤◌, nat_lt};
+ghost use Rattle.std.specs.Prelude.{◌≡◌, ◌^◌, ◌≤◌, MatchResult, Some, Ok, Err};
 ghost use Rattle.words.specs.Words.{words};
-ghost use Rattle.field_requests.specs.Requests.{named_field, bits_of, scales_of, named_operation, operation_in_field, shown_given, given_of, element_of, none_of, one_of, two_of, index_of, request_for, requested};
+ghost use Rattle.field_requests.specs.Requests.{named_field, bits_of, scales_of, reason_text, none_of, one_word, two_words, element_of, one_of, two_of, index_of, question_for, request_for, requested};
 
+use crate::calculation::Question;
+use std::error::Error;
+use std::fmt;
 use words::numeral::{decimal, hexadecimal};
-use words::word::{is_word, split_word};
+use words::word::split_word;
 
 // The fields, each by its name on a line: 1, 8, 16, 32, 64, and p2, p4, p8 for piles of pairs over Bit.
 #[derive(Clone, Copy)]
@@ -19,37 +22,16 @@ pub enum FieldName {
     Pile8,
 }
 
-#[derive(Clone, Copy)]
-pub enum Operation {
-    Sum,
-    Product,
-    Equal,
-    Inverse,
-    Solve,
-    Scale,
-    Top,
-    Bits,
-    Basis,
-    Point,
-}
-
-// An operation with its operands: elements by their numbers, an index as it is.
+// A question about elements by their numbers, the product of an element and a byte, or the number of bits.
 #[derive(Clone, Copy)]
 pub enum Request {
-    Sum(u64, u64),
-    Product(u64, u64),
-    Equal(u64, u64),
-    Inverse(u64),
-    Solve(u64),
+    Question(Question<u64>),
     Scale(u64, u64),
-    Top,
     Bits,
-    Basis(u64),
-    Point(u64),
 }
 
 // Why a line has no answer, in the order in which it is found.
-#[derive(Clone, Copy)]
+#[derive(Clone, Copy, PartialEq, Eq, Debug)]
 pub enum Reason {
     UnknownField,
     UnknownOperation,
@@ -58,49 +40,43 @@ pub enum Reason {
     NotANumber,
 }
 
-// The words after the operation.
-#[derive(Clone, Copy)]
-enum Given<'a> {
-    Nothing,
-    One(&'a [u8]),
-    Two(&'a [u8], &'a [u8]),
-    More,
+impl fmt::Display for Reason {
+    ghost output = { λ reason. Some (reason_text reason) };
+
+    fn fmt<W: fmt::Write>(&self, f: &mut fmt::Formatter<W>) -> fmt::Result {
+        f.write_str(match self {
+            Reason::UnknownField => "unknown field",
+            Reason::UnknownOperation => "unknown operation",
+            Reason::WrongOperands => "wrong operands",
+            Reason::NotAnElement => "not an element",
+            Reason::NotANumber => "not a number",
+        })
+    }
 }
+
+impl Error for Reason {}
 
 fn field_named(word: &[u8]) -> Option<FieldName>
     ensures { result ≡ named_field word.now }
 {
-    if is_word(word, "1") {
-        return Some(FieldName::Bit);
+    match word {
+        b"1" => Some(FieldName::Bit),
+        b"8" => Some(FieldName::Byte),
+        b"16" => Some(FieldName::Bits16),
+        b"32" => Some(FieldName::Bits32),
+        b"64" => Some(FieldName::Bits64),
+        b"p2" => Some(FieldName::Pile2),
+        b"p4" => Some(FieldName::Pile4),
+        b"p8" => Some(FieldName::Pile8),
+        _ => None,
     }
-    if is_word(word, "8") {
-        return Some(FieldName::Byte);
-    }
-    if is_word(word, "16") {
-        return Some(FieldName::Bits16);
-    }
-    if is_word(word, "32") {
-        return Some(FieldName::Bits32);
-    }
-    if is_word(word, "64") {
-        return Some(FieldName::Bits64);
-    }
-    if is_word(word, "p2") {
-        return Some(FieldName::Pile2);
-    }
-    if is_word(word, "p4") {
-        return Some(FieldName::Pile4);
-    }
-    if is_word(word, "p8") {
-        return Some(FieldName::Pile8);
-    }
-    None
 }
 
 impl FieldName {
     // Number of bits of an element.
     pub fn bits(&self) -> u32
-        ensures { result ≡ bits_of self.now }
+        ensures value { result ≡ bits_of self.now }
+        ensures within { result ≤ 64 }
     {
         match self {
             FieldName::Bit => 1,
@@ -112,190 +88,104 @@ impl FieldName {
             FieldName::Bits64 => 64,
         }
     }
+
+    // Whether the field has Byte below it, so that an element can be scaled by a byte.
+    fn scales(&self) -> bool
+        ensures { result ≡ scales_of self.now }
+    {
+        matches!(
+            self,
+            FieldName::Bits16 | FieldName::Bits32 | FieldName::Bits64
+        )
+    }
 }
 
-// Whether a field has Byte below it, so that an element can be scaled by a byte.
-fn scales(field: FieldName) -> bool
-    ensures { result ≡ scales_of field }
+fn no_operand(operands: &[u8]) -> Result<(), Reason>
+    ensures { result ≡ none_of (words operands.now) }
 {
-    match field {
-        FieldName::Bits16 | FieldName::Bits32 | FieldName::Bits64 => true,
-        _ => false,
+    match split_word(operands) {
+        None => Ok(()),
+        Some(_) => Err(Reason::WrongOperands),
     }
 }
 
-fn operation_named(word: &[u8]) -> Option<Operation>
-    ensures { result ≡ named_operation word.now }
+fn one_operand(operands: &[u8]) -> Result<&[u8], Reason>
+    ensures { MatchResult result (λ word. one_word (words operands.now) ≡ Ok word.now) (λ e. one_word (words operands.now) ≡ Err e) }
 {
-    if is_word(word, "sum") {
-        return Some(Operation::Sum);
-    }
-    if is_word(word, "product") {
-        return Some(Operation::Product);
-    }
-    if is_word(word, "equal") {
-        return Some(Operation::Equal);
-    }
-    if is_word(word, "inverse") {
-        return Some(Operation::Inverse);
-    }
-    if is_word(word, "solve") {
-        return Some(Operation::Solve);
-    }
-    if is_word(word, "scale") {
-        return Some(Operation::Scale);
-    }
-    if is_word(word, "top") {
-        return Some(Operation::Top);
-    }
-    if is_word(word, "bits") {
-        return Some(Operation::Bits);
-    }
-    if is_word(word, "basis") {
-        return Some(Operation::Basis);
-    }
-    if is_word(word, "point") {
-        return Some(Operation::Point);
-    }
-    None
+    let (word, rest) = split_word(operands).ok_or(Reason::WrongOperands)?;
+    no_operand(rest)?;
+    Ok(word)
 }
 
-// The operation of a word, at a field that has it.
-fn operation_at(field: FieldName, word: &[u8]) -> Option<Operation>
-    ensures { result ≡ operation_in_field field word.now }
+fn two_operands(operands: &[u8]) -> Result<(&[u8], &[u8]), Reason>
+    ensures { MatchResult result (λ p. two_words (words operands.now) ≡ Ok (p.0.now, p.1.now)) (λ e. two_words (words operands.now) ≡ Err e) }
 {
-    match operation_named(word)? {
-        Operation::Scale => {
-            if scales(field) {
-                Some(Operation::Scale)
-            } else {
-                None
-            }
-        }
-        operation => Some(operation),
-    }
+    let (first, rest) = split_word(operands).ok_or(Reason::WrongOperands)?;
+    Ok((first, one_operand(rest)?))
 }
 
-fn operands_of(rest: &[u8]) -> Given<'_>
-    ensures { shown_given result ≡ given_of (words rest.now) }
-{
-    let Some((first, rest)) = split_word(rest) else {
-        return Given::Nothing;
-    };
-    let Some((second, rest)) = split_word(rest) else {
-        return Given::One(first);
-    };
-    match split_word(rest) {
-        None => Given::Two(first, second),
-        Some(_) => Given::More,
-    }
-}
-
-// Whether a number is that of an element with that many bits.
-fn is_element(n: u64, bits: u32) -> bool
-    requires { bits ≤ 64 }
-    ensures { result ≡ nat_lt n (2 ^ bits) }
-{
-    bits == 64 || n < 1 << bits
-}
-
-// The number of an element with that many bits.
-fn element(bits: u32, word: &[u8]) -> Result<u64, Reason>
-    requires { bits ≤ 64 }
-    ensures { result ≡ element_of bits word.now }
-{
-    match hexadecimal(word) {
-        Some(n) => {
-            if is_element(n, bits) {
-                Ok(n)
-            } else {
-                Err(Reason::NotAnElement)
-            }
-        }
-        None => Err(Reason::NotAnElement),
-    }
-}
-
-fn no_operand(given: Given<'_>) -> Result<(), Reason>
-    ensures { result ≡ none_of (shown_given given.entry) }
-{
-    match given {
-        Given::Nothing => Ok(()),
-        _ => Err(Reason::WrongOperands),
-    }
-}
-
-fn one_element(bits: u32, given: Given<'_>) -> Result<u64, Reason>
-    requires { bits ≤ 64 }
-    ensures { result ≡ one_of bits (shown_given given.entry) }
-{
-    match given {
-        Given::One(word) => element(bits, word),
-        _ => Err(Reason::WrongOperands),
-    }
-}
-
-// Two elements, the second with bits of its own.
-fn two_elements(bits: u32, second_bits: u32, given: Given<'_>) -> Result<(u64, u64), Reason>
-    requires { (bits ≤ 64) × (second_bits ≤ 64) }
-    ensures { result ≡ two_of bits second_bits (shown_given given.entry) }
-{
-    match given {
-        Given::Two(first, second) => {
-            let x = element(bits, first)?;
-            let y = element(second_bits, second)?;
-            Ok((x, y))
-        }
-        _ => Err(Reason::WrongOperands),
-    }
-}
-
-fn index(given: Given<'_>) -> Result<u64, Reason>
-    ensures { result ≡ index_of (shown_given given.entry) }
-{
-    match given {
-        Given::One(word) => match decimal(word) {
-            Some(n) => Ok(n),
-            None => Err(Reason::NotANumber),
-        },
-        _ => Err(Reason::WrongOperands),
-    }
-}
-
-// The request of an operation at a field, with the operands that are given.
-fn request_of(field: FieldName, operation: Operation, given: Given<'_>) -> Result<Request, Reason>
-    ensures { result ≡ request_for field operation (shown_given given.entry) }
+// The number of an element of the field.
+fn element(field: FieldName, word: &[u8]) -> Result<u64, Reason>
+    ensures { result ≡ element_of field word.now }
 {
     let bits = field.bits();
+    hexadecimal(word)
+        .filter(|n| u128::from(*n) < 1 << bits)
+        .ok_or(Reason::NotAnElement)
+}
+
+#[tactic(auto, unfolding(crate::specs::Requests::one_of))]
+fn one_element(field: FieldName, operands: &[u8]) -> Result<u64, Reason>
+    ensures { result ≡ one_of field (words operands.now) }
+{
+    element(field, one_operand(operands)?)
+}
+
+// Two elements, each of a field of its own.
+#[tactic(auto, unfolding(crate::specs::Requests::two_of))]
+fn two_elements(first: FieldName, second: FieldName, operands: &[u8]) -> Result<(u64, u64), Reason>
+    ensures { result ≡ two_of first second (words operands.now) }
+{
+    let (x, y) = two_operands(operands)?;
+    Ok((element(first, x)?, element(second, y)?))
+}
+
+fn index(operands: &[u8]) -> Result<usize, Reason>
+    ensures { result ≡ index_of (words operands.now) }
+{
+    let word = one_operand(operands)?;
+    let index = decimal(word).ok_or(Reason::NotANumber)?;
+    Ok(index as usize)
+}
+
+// The question of an operation that every field has.
+#[tactic(auto, unfolding(crate::specs::Requests::question_for))]
+fn question_of(field: FieldName, operation: &[u8], operands: &[u8]) -> Result<Question<u64>, Reason>
+    ensures { result ≡ question_for field operation.now (words operands.now) }
+{
     match operation {
-        Operation::Sum => {
-            let (x, y) = two_elements(bits, bits, given)?;
-            Ok(Request::Sum(x, y))
+        b"sum" => two_elements(field, field, operands).map(|(x, y)| Question::Sum(x, y)),
+        b"product" => two_elements(field, field, operands).map(|(x, y)| Question::Product(x, y)),
+        b"equal" => two_elements(field, field, operands).map(|(x, y)| Question::Equal(x, y)),
+        b"inverse" => one_element(field, operands).map(Question::Inverse),
+        b"solve" => one_element(field, operands).map(Question::Solve),
+        b"top" => no_operand(operands).map(|()| Question::Top),
+        b"basis" => index(operands).map(Question::Basis),
+        b"point" => index(operands).map(Question::Point),
+        _ => Err(Reason::UnknownOperation),
+    }
+}
+
+// The request of an operation at a field that has it, with its operands.
+fn request_of(field: FieldName, operation: &[u8], operands: &[u8]) -> Result<Request, Reason>
+    ensures { result ≡ request_for field operation.now (words operands.now) }
+{
+    match operation {
+        b"scale" if field.scales() => {
+            two_elements(field, FieldName::Byte, operands).map(|(x, byte)| Request::Scale(x, byte))
         }
-        Operation::Product => {
-            let (x, y) = two_elements(bits, bits, given)?;
-            Ok(Request::Product(x, y))
-        }
-        Operation::Equal => {
-            let (x, y) = two_elements(bits, bits, given)?;
-            Ok(Request::Equal(x, y))
-        }
-        Operation::Scale => {
-            let (x, y) = two_elements(bits, 8, given)?;
-            Ok(Request::Scale(x, y))
-        }
-        Operation::Inverse => Ok(Request::Inverse(one_element(bits, given)?)),
-        Operation::Solve => Ok(Request::Solve(one_element(bits, given)?)),
-        Operation::Basis => Ok(Request::Basis(index(given)?)),
-        Operation::Point => Ok(Request::Point(index(given)?)),
-        Operation::Top => {
-            no_operand(given)?;
-            Ok(Request::Top)
-        }
-        Operation::Bits => {
-            no_operand(given)?;
-            Ok(Request::Bits)
-        }
+        b"bits" => no_operand(operands).map(|()| Request::Bits),
+        _ => question_of(field, operation, operands).map(Request::Question),
     }
 }
 
@@ -303,18 +193,8 @@ fn request_of(field: FieldName, operation: Operation, given: Given<'_>) -> Resul
 pub fn read_request(text: &[u8]) -> Result<(FieldName, Request), Reason>
     ensures { result ≡ requested (words text.now) }
 {
-    let Some((word, rest)) = split_word(text) else {
-        return Err(Reason::UnknownField);
-    };
-    let Some(field) = field_named(word) else {
-        return Err(Reason::UnknownField);
-    };
-    let Some((word, rest)) = split_word(rest) else {
-        return Err(Reason::UnknownOperation);
-    };
-    let Some(operation) = operation_at(field, word) else {
-        return Err(Reason::UnknownOperation);
-    };
-    let request = request_of(field, operation, operands_of(rest))?;
-    Ok((field, request))
+    let (name, rest) = split_word(text).ok_or(Reason::UnknownField)?;
+    let field = field_named(name).ok_or(Reason::UnknownField)?;
+    let (operation, operands) = split_word(rest).ok_or(Reason::UnknownOperation)?;
+    Ok((field, request_of(field, operation, operands)?))
 }

@@ -2,112 +2,73 @@
 // check its own arithmetic against ours.
 #![tactic(auto)]
 
-use field_requests::calculation::{Answer, Question, calculate, scale_by_byte};
+use field_requests::calculation::{Question, calculate, element, scale_by_byte};
 use field_requests::request::{FieldName, Reason, Request, read_request};
 use fields::bit::Bit;
 use fields::byte::Byte;
 use fields::extension::ExtensionField;
-use fields::pair::Pair;
+use fields::text::Hexadecimal;
 use fields::tower::TowerLevel;
+use fields::{Pair16, Pair32, Pair64, Pile2, Pile4, Pile8};
 use lines::line::Line;
 use lines::source::LineSource;
 use std::io;
 use std::io::{BufWriter, Write};
 
-// The question of a request, or none for one that is answered otherwise.
-fn question_of<F: TowerLevel>(request: Request) -> Option<Question<F>> {
-    match request {
-        Request::Sum(x, y) => Some(Question::Sum(element(x), element(y))),
-        Request::Product(x, y) => Some(Question::Product(element(x), element(y))),
-        Request::Equal(x, y) => Some(Question::Equal(element(x), element(y))),
-        Request::Inverse(x) => Some(Question::Inverse(element(x))),
-        Request::Solve(x) => Some(Question::Solve(element(x))),
-        Request::Top => Some(Question::Top),
-        Request::Basis(j) => Some(Question::Basis(j as usize)),
-        Request::Point(j) => Some(Question::Point(j as usize)),
-        Request::Scale(_, _) | Request::Bits => None,
-    }
+// Answers a question in the field F.
+fn answer_in<F: TowerLevel, W: Write>(out: &mut W, question: Question<u64>) -> io::Result<()> {
+    writeln!(out, "{}", calculate(question.in_field::<F>()))
 }
 
-fn element<F: TowerLevel>(number: u64) -> F {
-    F::from_number(u128::from(number))
-}
-
-// An element as hexadecimal digits, padded to its width; one digit below four bits.
-fn print_element<W: Write>(out: &mut W, bits: u32, number: u128) -> io::Result<()> {
-    match bits {
-        8 => writeln!(out, "{number:02x}"),
-        16 => writeln!(out, "{number:04x}"),
-        32 => writeln!(out, "{number:08x}"),
-        64 => writeln!(out, "{number:016x}"),
-        _ => writeln!(out, "{number:x}"),
-    }
-}
-
-fn print_answer<W: Write, F: TowerLevel>(
+// Answers with the product of an element of F and a byte.
+fn scale_in<F: TowerLevel + ExtensionField<Byte, D>, D, W: Write>(
     out: &mut W,
-    bits: u32,
-    answer: Answer<F>,
+    number: u64,
+    byte: u64,
 ) -> io::Result<()> {
-    match answer {
-        Answer::Element(Some(x)) => print_element(out, bits, x.to_number()),
-        Answer::Element(None) => writeln!(out, "none"),
-        Answer::Truth(same) => writeln!(out, "{same}"),
-    }
+    let product: F = scale_by_byte(element(number), element(byte));
+    writeln!(out, "{}", Hexadecimal(product))
 }
 
-// Answers a request in a field that nothing scales.
-fn answer<W: Write, F: TowerLevel>(out: &mut W, bits: u32, request: Request) -> io::Result<()> {
-    match question_of::<F>(request) {
-        Some(question) => print_answer(out, bits, calculate(question)),
-        None => writeln!(out, "{bits}"),
-    }
-}
-
-// Answers a request in a field above Byte.
-fn answer_above_byte<W: Write, F: TowerLevel + ExtensionField<Byte, D>, D>(
+fn answer_question<W: Write>(
     out: &mut W,
-    bits: u32,
-    request: Request,
+    field: FieldName,
+    question: Question<u64>,
 ) -> io::Result<()> {
-    match request {
-        Request::Scale(x, y) => {
-            let scaled: F = scale_by_byte(element(x), element(y));
-            print_element(out, bits, scaled.to_number())
-        }
-        _ => answer::<W, F>(out, bits, request),
-    }
-}
-
-fn answer_at<W: Write>(out: &mut W, field: FieldName, request: Request) -> io::Result<()> {
-    let bits = field.bits();
     match field {
-        FieldName::Bit => answer::<W, Bit>(out, bits, request),
-        FieldName::Byte => answer::<W, Byte>(out, bits, request),
-        FieldName::Bits16 => answer_above_byte::<W, Pair<Byte>, _>(out, bits, request),
-        FieldName::Bits32 => answer_above_byte::<W, Pair<Pair<Byte>>, _>(out, bits, request),
-        FieldName::Bits64 => answer_above_byte::<W, Pair<Pair<Pair<Byte>>>, _>(out, bits, request),
-        FieldName::Pile2 => answer::<W, Pair<Bit>>(out, bits, request),
-        FieldName::Pile4 => answer::<W, Pair<Pair<Bit>>>(out, bits, request),
-        FieldName::Pile8 => answer::<W, Pair<Pair<Pair<Bit>>>>(out, bits, request),
+        FieldName::Bit => answer_in::<Bit, _>(out, question),
+        FieldName::Byte => answer_in::<Byte, _>(out, question),
+        FieldName::Bits16 => answer_in::<Pair16, _>(out, question),
+        FieldName::Bits32 => answer_in::<Pair32, _>(out, question),
+        FieldName::Bits64 => answer_in::<Pair64, _>(out, question),
+        FieldName::Pile2 => answer_in::<Pile2, _>(out, question),
+        FieldName::Pile4 => answer_in::<Pile4, _>(out, question),
+        FieldName::Pile8 => answer_in::<Pile8, _>(out, question),
     }
 }
 
-fn print_reason<W: Write>(out: &mut W, number: u64, reason: Reason) -> io::Result<()> {
-    let text = match reason {
-        Reason::UnknownField => "unknown field",
-        Reason::UnknownOperation => "unknown operation",
-        Reason::WrongOperands => "wrong operands",
-        Reason::NotAnElement => "not an element",
-        Reason::NotANumber => "not a number",
-    };
-    writeln!(out, "line {number}: {text}")
+// The fields above Byte alone have products with bytes.
+fn answer_scale<W: Write>(out: &mut W, field: FieldName, number: u64, byte: u64) -> io::Result<()> {
+    match field {
+        FieldName::Bits16 => scale_in::<Pair16, _, _>(out, number, byte),
+        FieldName::Bits32 => scale_in::<Pair32, _, _>(out, number, byte),
+        FieldName::Bits64 => scale_in::<Pair64, _, _>(out, number, byte),
+        _ => writeln!(out, "{}", Reason::UnknownOperation),
+    }
+}
+
+fn answer<W: Write>(out: &mut W, field: FieldName, request: Request) -> io::Result<()> {
+    match request {
+        Request::Question(question) => answer_question(out, field, question),
+        Request::Scale(number, byte) => answer_scale(out, field, number, byte),
+        Request::Bits => writeln!(out, "{}", field.bits()),
+    }
 }
 
 fn answer_text<W: Write>(out: &mut W, number: u64, text: &[u8]) -> io::Result<()> {
     match read_request(text) {
-        Ok((field, request)) => answer_at(out, field, request),
-        Err(reason) => print_reason(out, number, reason),
+        Ok((field, request)) => answer(out, field, request),
+        Err(reason) => writeln!(out, "line {number}: {reason}"),
     }
 }
 
