@@ -35,7 +35,7 @@ pub fn calculate<F: TowerLevel>(question: Question<F>) -> Answer<F>
     match question {
         Question::Sum(x, y) => Answer::Element(Some(x.sum(y))),
         Question::Product(x, y) => Answer::Element(Some(x.product(y))),
-        Question::Equal(x, y) => Answer::Truth(x.equals(y)),
+        Question::Equal(x, y) => Answer::Truth(x == y),
         Question::Inverse(x) => Answer::Element(x.inverse()),
         Question::Solve(x) => Answer::Element(x.solve()),
         Question::Top => Answer::Element(Some(F::top())),

@@ -1,2 +1,2 @@
-pub mod Batches
+pub mod Texts
 pub mod Basis

@@ -1,12 +1,12 @@
 -- The inverses of a whole list: none if an element is zero.
-use Rattle.std.specs.Prelude.{Bool, false, cond, ◌||◌, List, [], ◌∷◌, map, Some, None, Option}
+use Rattle.std.specs.Prelude.{Bool, cond, List, map, Some, None, Option}
+use Rattle.std.specs.List.{list_any}
 use Rattle.std.specs.Option.{unwrap_or}
 use Rattle.fields.specs.Field.{Operations}
 
 module _ {F : Type 0} (o : Operations F) where
   abbrev pub has_zero : List F → Bool
-  has_zero [] = false
-  has_zero (x ∷ xs) = o.equals x o.zero || has_zero xs
+  has_zero xs = list_any (λ x. o.equals x o.zero) xs
 
   -- the inverse of what is not zero
   abbrev pub inverted : F → F

@@ -1,6 +1,7 @@
 -- The laws of the field of two elements and of its level, by cases.
 use Rattle.std.specs.Prelude.{◌≡◌, ℕ, zero, suc, ◌<◌, Bool, true, false, is_some, Some, None, ◌≢◌, bit_xor, nat_lt, refl}
 use Rattle.std.proofs.Common.{sym, ap, ◌∙◌, arith}
+use Rattle.std.proofs.Math.Bool.{beq}
 use Rattle.std.proofs.lemmas.Bool.{le-ltb, false≢true}
 use Rattle.fields.specs.declared.bit.Bit.{Bit}
 use Rattle.fields.specs.Field.{FieldLaws}
@@ -52,6 +53,16 @@ bit_field = record {
     equal2 true false e = absurd (false≢true e)
     equal2 false true e = absurd (false≢true e)
     equal2 false false e = refl
+
+-- what the derived equality is
+pub bit_equality : (x y : Bit) → beq x.on y.on ≡ bit_ops.equals x y
+bit_equality x y = same x.on y.on
+  where
+    same : (a b : Bool) → beq a b ≡ bit_ops.equals (bit a) (bit b)
+    same true true = refl
+    same true false = refl
+    same false true = refl
+    same false false = refl
 
 pub bit_tower : LevelLaws bit_ops bit_level
 bit_tower = record {

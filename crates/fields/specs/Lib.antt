@@ -1,5 +1,6 @@
 pub mod Field
 pub mod Tower
+pub mod Text
 pub mod Extension
 pub mod Consequences
 pub mod Bits

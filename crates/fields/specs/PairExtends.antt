@@ -33,6 +33,10 @@ module _ {F B : Type 0} {o : Operations F} {p : Operations B} {m : Embedding F B
   pub scale_halves : (e : Pair B) (x : F) → pair (p.product e.low (m.embed x)) (p.product e.high (m.embed x)) ≡ (pair_ops p top).product e ((pair_embedding p m).embed x)
   scale_halves e x = pair_by_normal_form M.ring top (top ∷ e.low ∷ e.high ∷ m.embed x ∷ []) (pair (times (var 1) (var 3)) (times (var 2) (var 3))) (terms.product X (pair (var 3) nil)) refl refl
 
+  -- what a test for zero says, by an equality that is the field's
+  pub tested : {same : B → B → Bool} → ((x y : B) → same x y ≡ p.equals x y) → (x z : B) (b : Bool) → z ≡ p.zero → b ≡ same x z → p.equals x p.zero ≡ b
+  tested e x z b h k = ap (p.equals x) (sym h) ∙ sym (e x z) ∙ sym k
+
   pub base_low : (e : Pair B) (r : Option F) → p.equals e.high p.zero ≡ true → r ≡ m.base e.low → r ≡ (pair_embedding p m).base e
   base_low e r h k = k ∙ sym (cond-true _ _ _ h)
 

@@ -1,7 +1,7 @@
 -- The pairs over a level are a field.
-use Rattle.std.specs.Prelude.{◌≡◌, Bool, true, false, cond, ◌⊎◌, List, [], ◌∷◌, Some, ◌≢◌, refl}
-use Rattle.std.proofs.Common.{sym, ap, ◌∙◌, inl, inr}
-use Rattle.std.proofs.lemmas.Bool.{false≢true}
+use Rattle.std.specs.Prelude.{◌≡◌, Bool, true, false, cond, ◌&&◌, ◌⊎◌, List, [], ◌∷◌, Some, ◌≢◌, refl}
+use Rattle.std.proofs.Common.{sym, ap, ap₂, ◌∙◌, inl, inr}
+use Rattle.std.proofs.lemmas.Bool.{false≢true, cond-true, cond-false}
 use Rattle.std.specs.Option.{option_map}
 use Rattle.fields.specs.declared.pair.Pair.{Pair}
 use Rattle.fields.specs.Field.{Operations, Ring, FieldLaws}
@@ -14,6 +14,14 @@ use Rattle.fields.specs.Solver.Term.{var, nil, unit, plus, times}
 
 pub pair_eq : {B : Type 0} (x y : Pair B) → x.low ≡ y.low → x.high ≡ y.high → x ≡ y
 pair_eq x y p q = ap (λ a. pair a x.high) p ∙ ap (pair y.low) q
+
+-- what the derived equality is
+pub pair_equality : {B : Type 0} (o : Operations B) (top : B) {same : B → B → Bool} → ((x y : B) → same x y ≡ o.equals x y) → (x y : Pair B) → (same x.low y.low && same x.high y.high) ≡ (pair_ops o top).equals x y
+pair_equality o top {same} e x y = go (same x.low y.low) (e x.low y.low)
+  where
+    go : (b : Bool) → b ≡ o.equals x.low y.low → (b && same x.high y.high) ≡ cond (o.equals x.low y.low) (o.equals x.high y.high) false
+    go true h = e x.high y.high ∙ sym (cond-true _ _ _ (sym h))
+    go false h = sym (cond-false _ _ _ (sym h))
 
 -- pairs of expressions; variable 0 is top
 abbrev pub terms : Operations (Pair Term)

@@ -9,15 +9,11 @@ pub fn batch_multiplicative_inverse<F: Field>(values: &mut [F]) -> Option<()>
     ensures answer { result ≡ batch_answer F.Field.ops values.old }
     ensures inverses { values.new ≡ batch_inverses F.Field.ops values.old }
 {
-    for i in 0..values.len() {
-        if values[i].equals(F::zero()) {
-            return None;
-        }
+    if values.contains(&F::zero()) {
+        return None;
     }
-    for k in 0..values.len() {
-        if let Some(y) = values[k].inverse() {
-            values[k] = y;
-        }
+    for value in values.iter_mut() {
+        *value = value.inverse().unwrap_or(*value);
     }
     Some(())
 }

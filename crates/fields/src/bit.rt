@@ -1,11 +1,11 @@
 // The field of two elements.
 ghost use Rattle.fields.specs.Bits.{bit_ops, bit_level};
-ghost use Rattle.fields.specs.BitLaws.{bit_field, bit_tower};
+ghost use Rattle.fields.specs.BitLaws.{bit_field, bit_equality, bit_tower};
 
 use super::field::Field;
 use super::tower::TowerLevel;
 
-#[derive(Clone, Copy)]
+#[derive(Clone, Copy, PartialEq, Eq)]
 pub struct Bit {
     pub on: bool,
 }
@@ -14,6 +14,8 @@ impl Field for Bit {
     ghost ops = { bit_ops };
 
     ghost laws = { bit_field };
+
+    ghost equality = { bit_equality };
 
     fn zero() -> Bit {
         Bit { on: false }
@@ -37,10 +39,6 @@ impl Field for Bit {
 
     fn inverse(self) -> Option<Bit> {
         if self.on { Some(self) } else { None }
-    }
-
-    fn equals(self, other: Bit) -> bool {
-        self.on == other.on
     }
 }
 

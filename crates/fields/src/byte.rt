@@ -4,7 +4,7 @@ ghost use Rattle.std.specs.Prelude.{◌<◌};
 pub mod arithmetic;
 mod tables;
 
-#[derive(Clone, Copy)]
+#[derive(Clone, Copy, PartialEq, Eq)]
 pub struct Byte {
     value: u8,
     ghost ok: { value < 256 },

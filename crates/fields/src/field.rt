@@ -2,7 +2,7 @@
 ghost use Rattle.std.specs.Prelude.{◌≡◌};
 ghost use Rattle.fields.specs.Field.{Operations, FieldLaws};
 
-pub trait Field: Copy {
+pub trait Field: Copy + Eq {
     ghost ops: { Operations Self };
 
     fn zero() -> Self
@@ -21,9 +21,8 @@ pub trait Field: Copy {
     fn inverse(self) -> Option<Self>
         ensures { result ≡ ops.inverse self };
 
-    // Whether they are the same element.
-    fn equals(self, other: Self) -> bool
-        ensures { result ≡ ops.equals self other };
-
     ghost laws: { FieldLaws ops };
+
+    // `==` holds exactly of the same element.
+    ghost equality: { (x y : Self) → Self.PartialEq.eq x y ≡ ops.equals x y };
 }

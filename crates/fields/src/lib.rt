@@ -7,6 +7,7 @@ pub mod byte;
 pub mod extension;
 pub mod field;
 pub mod pair;
+pub mod text;
 pub mod theorems;
 pub mod tower;
 

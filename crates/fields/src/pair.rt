@@ -3,7 +3,7 @@ ghost use Rattle.std.specs.Prelude.{◌≡◌, if◌then◌else◌, Some, None, 
 ghost use Rattle.fields.specs.Tower.{width};
 ghost use Rattle.fields.specs.Pairs.{norm as norm_of, pair_ops, pair_level, pair_embedding};
 ghost use Rattle.fields.specs.Levels.{no_root};
-ghost use Rattle.fields.specs.PairLaws.{pair_field};
+ghost use Rattle.fields.specs.PairLaws.{pair_field, pair_equality};
 ghost use Rattle.fields.specs.PairBasis.{pair_tower};
 ghost use Rattle.fields.specs.PairExtends.{pair_extends};
 
@@ -11,7 +11,7 @@ use super::extension::{ExtensionField, Up};
 use super::field::Field;
 use super::tower::TowerLevel;
 
-#[derive(Clone, Copy)]
+#[derive(Clone, Copy, PartialEq, Eq)]
 pub struct Pair<B> {
     pub low: B,
     pub high: B,
@@ -39,6 +39,8 @@ impl<B: TowerLevel> Field for Pair<B> {
 
     ghost laws = { let L = B.Field.laws in
         pair_field L _ (no_root B.TowerLevel.tower.solving L.ring) };
+
+    ghost equality = { pair_equality B.Field.ops B.TowerLevel.level.top B.Field.equality };
 
     fn zero() -> Pair<B> {
         Pair {
@@ -80,10 +82,6 @@ impl<B: TowerLevel> Field for Pair<B> {
             }),
             None => None,
         }
-    }
-
-    fn equals(self, other: Pair<B>) -> bool {
-        self.low.equals(other.low) && self.high.equals(other.high)
     }
 }
 
@@ -162,7 +160,7 @@ where
     }
 
     fn as_base(self) -> Option<F> {
-        if self.high.equals(B::zero()) {
+        if self.high == B::zero() {
             self.low.as_base()
         } else {
             None

@@ -29,7 +29,7 @@ impl Generator {
         ensures value { Drawn F.Field.ops F.TowerLevel.level (mixed (next_state self.old.state)) result }
     {
         let x = F::from_number(self.number() as u128);
-        if x.equals(F::zero()) { F::one() } else { x }
+        if x == F::zero() { F::one() } else { x }
     }
 
     #[tactic(auto, using(crate::proofs::Turns::drawn_more))]
