@@ -1,8 +1,8 @@
 -- What the number of bits says, and why a degree that a domain admits fits it.
-use Rattle.std.proofs.Common.{◌≡◌, ℕ, zero, suc, ◌+◌, ◌-◌, ◌*◌, ◌/◌, ◌%◌, ◌^◌, ◌<◌, ◌≤◌, max, false, leb, IfSome, Some, None, Option, unwrap_or, sym, ap, ◌∙◌, subst, inl, inr, mul-le-mul_right, pow-suc, mul-suc, add-one, arith, pow_pos, pow_mono, pow-add}
+use Rattle.std.proofs.Common.{◌≡◌, ℕ, zero, suc, ◌+◌, ◌-◌, ◌*◌, ◌/◌, ◌%◌, ◌^◌, ◌<◌, ◌≤◌, max, Bool, true, false, cond, ◌==◌, refl, leb, IfSome, Some, None, Option, unwrap_or, sym, ap, ◌∙◌, subst, inl, inr, mul-le-mul_right, pow-suc, mul-suc, add-one, arith, pow_pos, pow_mono, pow-add}
 use native.Mathlib.Nat.{max-le, le-max_left}
 use lib.Count.{count_leading_zeros, leading_unique}
-use Rattle.std.proofs.lemmas.Bool.{cases_lt, lt-leb}
+use Rattle.std.proofs.lemmas.Bool.{cases_lt, lt-leb, leb-true, eqb-false, false≢true}
 use Rattle.std.specs.Option.{SomeIff, option_map}
 use Rattle.skip_dimensions.specs.Degrees.{digits, bits, extra, Reaches, Least, Fits, admits}
 
@@ -83,8 +83,15 @@ sum_admits s e d x None h k l = ap (λ (y : Option ℕ). unwrap_or (option_map (
 sum_admits s e d x (Some n) h k l =
     ap (λ (y : Option ℕ). unwrap_or (option_map (λ n. leb (s + n) e) y) false) (sym h) ∙ ap (λ (m : ℕ). leb m e) (sym k.1)
 
+-- the dimensions above the subspace reach the degree
+reached_by : (d : ℕ) (none : Bool) → (d == 0) ≡ none → IfSome (cond none None (Some (max (bits (d - 1)) 1))) (λ x. d ≤ 2 ^ x)
+reached_by d true h = tt
+reached_by d false h = let p : (d ≡ 0 → ⊥) = eqb-false d 0 h in (bits_least d (max (bits (d - 1)) 1) (omega (arith, p)) refl).holds.1
+
+admitted_by : (s e d : ℕ) (o : Option ℕ) → IfSome o (λ x. d ≤ 2 ^ x) → unwrap_or (option_map (λ x. leb (s + x) e) o) false ≡ true → Fits s e d
+admitted_by s e d None r h = absurd (false≢true h)
+admitted_by s e d (Some x) r h = reaches_fits s e d x r (leb-true (s + x) e h)
+
 -- and the degree fits every domain that admits it
-pub sum_fits : (s d x : ℕ) (o : Option ℕ) → d ≤ 2 ^ x → SomeIff o (s + x < 2 ^ 64) (s + x) →
-    IfSome o (λ n. (e : ℕ) → n ≤ e → Fits s e d)
-sum_fits s d x None r k = tt
-sum_fits s d x (Some n) r k = λ e h. reaches_fits s e d x r (omega (arith, k.1))
+pub admits_fits : (s e d : ℕ) → admits s e d ≡ true → Fits s e d
+admits_fits s e d h = admitted_by s e d (extra d) (reached_by d (d == 0) refl) h

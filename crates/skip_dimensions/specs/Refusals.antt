@@ -4,6 +4,8 @@ use Rattle.std.specs.Prelude.{ℕ, ◌^◌, min, cond, List, [], ◌∷◌, Some
 use Rattle.skip_dimensions.specs.Degrees.{dimensions}
 use Rattle.skip_dimensions.specs.declared.fault.SkipDomainError.{SkipDomainError}
 use Rattle.skip_dimensions.specs.declared.fault.SkipDomainError.TheVariants.{EmptyExtension, ExtensionTooWide, ExtensionBeyondLimit, SubspaceTooNarrow, BufferLenMismatch}
+use Rattle.skip_dimensions.specs.declared.refusal.Values.{Values}
+use Rattle.skip_dimensions.specs.declared.refusal.Values.TheVariants.{One, Two, Three}
 
 -- the number of each cause in the table
 abbrev pub number_of : SkipDomainError → ℕ
@@ -25,10 +27,20 @@ values_of (BufferLenMismatch p e a) = p ∷ e ∷ a ∷ []
 abbrev pub Report : Type 0
 Report = ℕ × List ℕ
 
--- what a call that may refuse reports
+-- what a call that may refuse reports, for errors with these numbers and values
+abbrev pub reported_by : {X E : Type 0} → (E → ℕ) → (E → List ℕ) → Result X E → Option Report
+reported_by numbers values (Ok x) = None
+reported_by numbers values (Err f) = Some (numbers f, values f)
+
+-- what a call that may refuse a domain reports
 abbrev pub reported : {X : Type 0} → Result X SkipDomainError → Option Report
-reported (Ok x) = None
-reported (Err f) = Some (number_of f, values_of f)
+reported = reported_by number_of values_of
+
+-- the values of a refusal as they are handed out
+abbrev pub listed : Values → List ℕ
+listed (One items) = items
+listed (Two items) = items
+listed (Three items) = items
 
 -- the widest extension: one basis element for each dimension, of which a field of 2 ^ b bits has
 -- 2 ^ b, and no more than 63, so that a word counts its points

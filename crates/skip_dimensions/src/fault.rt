@@ -1,8 +1,8 @@
 // Why a domain cannot be built or a buffer be used. `specs/Refusals.antt` has each case's number and values.
-ghost use Rattle.std.specs.Prelude.{◌≡◌, take, OnOk};
-ghost use Rattle.skip_dimensions.specs.Refusals.{number_of, values_of, reported, wrong_length};
+ghost use Rattle.skip_dimensions.specs.Refusals as table;
 
-use std::fmt;
+use crate::refusal::Refusal;
+pub use crate::refusal::{Values, check_length};
 
 // Reasons a skip domain cannot be built, or a buffer that is lent to it be used.
 #[derive(Clone, Copy, PartialEq, Eq, Debug)]
@@ -33,28 +33,12 @@ pub enum SkipDomainError {
     },
 }
 
-// The values of a refusal: the first `count` of the items.
-#[derive(Clone, Copy)]
-pub struct Values {
-    pub items: [usize; 3],
-    pub count: usize,
-}
+impl Refusal for SkipDomainError {
+    ghost number_of = { table.number_of };
 
-// Each value after a space.
-impl fmt::Display for Values {
-    fn fmt<W: fmt::Write>(&self, f: &mut fmt::Formatter<W>) -> fmt::Result {
-        for value in self.items.iter().take(self.count) {
-            write!(f, " {value}")?;
-        }
-        Ok(())
-    }
-}
+    ghost values_of = { table.values_of };
 
-impl SkipDomainError {
-    // The number of this cause in the table of refusals.
-    pub fn number(&self) -> u8
-        ensures { result ≡ number_of self.now }
-    {
+    fn number(&self) -> u8 {
         match self {
             SkipDomainError::EmptyExtension { .. } => 1,
             SkipDomainError::ExtensionTooWide { .. } => 2,
@@ -64,56 +48,31 @@ impl SkipDomainError {
         }
     }
 
-    // The values that it returns, in the table's order.
-    pub fn values(&self) -> Values
-        ensures { take result.count result.items ≡ values_of self.now }
-    {
+    fn values(&self) -> Values {
         match *self {
             SkipDomainError::EmptyExtension {
                 log_size,
                 log_extended,
-            } => Values {
-                items: [log_size, log_extended, 0],
-                count: 2,
-            },
+            } => Values::Two([log_size, log_extended]),
             SkipDomainError::ExtensionTooWide {
                 log_extended,
                 limit,
-            } => Values {
-                items: [log_extended, limit, 0],
-                count: 2,
-            },
-            SkipDomainError::ExtensionBeyondLimit { log_extended } => Values {
-                items: [log_extended, 0, 0],
-                count: 1,
-            },
-            SkipDomainError::SubspaceTooNarrow { log_size } => Values {
-                items: [log_size, 0, 0],
-                count: 1,
-            },
+            } => Values::Two([log_extended, limit]),
+            SkipDomainError::ExtensionBeyondLimit { log_extended } => Values::One([log_extended]),
+            SkipDomainError::SubspaceTooNarrow { log_size } => Values::One([log_size]),
             SkipDomainError::BufferLenMismatch {
                 place,
                 expected,
                 actual,
-            } => Values {
-                items: [place as usize, expected, actual],
-                count: 3,
-            },
+            } => Values::Three([place as usize, expected, actual]),
         }
     }
-}
 
-// Refuses a buffer whose length is not the one that is wanted at its place.
-pub fn check_length(place: u8, expected: usize, actual: usize) -> Result<(), SkipDomainError>
-    ensures refused { reported result ≡ wrong_length place expected actual }
-    ensures length { OnOk result (actual ≡ expected) }
-{
-    if actual != expected {
-        return Err(SkipDomainError::BufferLenMismatch {
+    fn buffer_len_mismatch(place: u8, expected: usize, actual: usize) -> SkipDomainError {
+        SkipDomainError::BufferLenMismatch {
             place,
             expected,
             actual,
-        });
+        }
     }
-    Ok(())
 }

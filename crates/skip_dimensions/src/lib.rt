@@ -4,3 +4,4 @@
 pub mod degree;
 pub mod dimensions;
 pub mod fault;
+pub mod refusal;

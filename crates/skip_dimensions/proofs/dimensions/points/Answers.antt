@@ -1,6 +1,6 @@
 use Rattle.std.proofs.Common.{arith, pow_mono}
 use Rattle.skip_dimensions.proofs.Degrees.{shifted_one}
-use Rattle.skip_dimensions.proofs.degree.points.Goals as goal
+use Rattle.skip_dimensions.proofs.dimensions.points.Goals as goal
 
 pub returns : goal.returns
 returns c =

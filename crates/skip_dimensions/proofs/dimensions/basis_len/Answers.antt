@@ -1,6 +1,6 @@
 use Rattle.std.proofs.Common.{◌≡◌, ℕ, ◌^◌, ◌≤◌, min, ap, ◌∙◌, inl, inr, arith, pow_mono}
 use Rattle.std.proofs.lemmas.Bool.{cases_lt}
-use Rattle.skip_dimensions.proofs.degree.basis_len.Goals as goal
+use Rattle.skip_dimensions.proofs.dimensions.basis_len.Goals as goal
 
 -- from six on, two to that power is at least 64
 cut : (b : ℕ) → 2 ^ min b 6 ≡ min (2 ^ b) 64
