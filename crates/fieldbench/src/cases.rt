@@ -47,10 +47,7 @@ impl<F: Field> Operation<F, F> for Inverse {
     ghost answer = { λ x y. unwrap_or (F.Field.ops.inverse x) y };
 
     fn apply(value: F, operand: F) -> F {
-        match value.inverse() {
-            Some(y) => y,
-            None => operand,
-        }
+        value.inverse().unwrap_or(operand)
     }
 }
 
@@ -61,10 +58,7 @@ impl<F: TowerLevel> Operation<F, F> for Solve {
     ghost answer = { λ x _. unwrap_or (F.TowerLevel.level.solve x) (F.Field.ops.sum x F.TowerLevel.level.top) };
 
     fn apply(value: F, _operand: F) -> F {
-        match value.solve() {
-            Some(y) => y,
-            None => value.sum(F::top()),
-        }
+        value.solve().unwrap_or_else(|| value.sum(F::top()))
     }
 }
 
@@ -85,9 +79,10 @@ pub struct Each<O> {
 impl<F: Copy, X: Copy, O: Operation<F, X>> Case<F, X> for Each<O> {
     ghost after = { zipped O.Operation.answer };
 
+    #[tactic(auto, using(crate::proofs::Zips::zipped_turn, crate::proofs::Zips::zipped_all))]
     fn pass(values: &mut [F], operands: &[X]) {
-        for i in 0..values.len() {
-            values[i] = O::apply(values[i], operands[i]);
+        for (i, value) in values.iter_mut().enumerate() {
+            *value = O::apply(*value, operands[i]);
         }
     }
 }

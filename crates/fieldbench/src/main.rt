@@ -3,29 +3,16 @@
 #![tactic(auto)]
 
 mod cases;
-mod generator;
 mod measure;
 
-use anyhow::anyhow;
 use cases::{BatchInverse, Each, Inverse, Product, Scale, Solve};
 use fields::byte::Byte;
 use fields::extension::{Here, Up};
 use fields::{Pair16, Pair64};
 use measure::measure;
-use std::env;
+use measuring::arguments::repetitions;
 
 const DEFAULT_REPETITIONS: u32 = 4;
-
-fn repetitions(rt: &HostRuntime) -> anyhow::Result<u32> {
-    let count = match env::args(rt)?.nth(1) {
-        Some(word) => word.as_str().parse::<u32>()?,
-        None => DEFAULT_REPETITIONS,
-    };
-    if count == 0 {
-        return Err(anyhow!("the number of repetitions is 0"));
-    }
-    Ok(count)
-}
 
 fn measure_products(rt: &HostRuntime, repetitions: u32) -> anyhow::Result<()> {
     measure::<Byte, Byte, Each<Product>>(rt, "product 8", repetitions)?;
@@ -46,7 +33,7 @@ fn measure_solutions(rt: &HostRuntime, repetitions: u32) -> anyhow::Result<()> {
 }
 
 fn run(rt: &HostRuntime) -> anyhow::Result<()> {
-    let repetitions = repetitions(rt)?;
+    let repetitions = repetitions(rt, DEFAULT_REPETITIONS)?;
     measure_products(rt, repetitions)?;
     measure_solutions(rt, repetitions)
 }

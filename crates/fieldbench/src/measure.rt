@@ -1,12 +1,14 @@
 // The time of a case, and a checksum of what it leaves.
-ghost use Rattle.std.specs.Prelude.{◌≡◌, length};
+ghost use Rattle.std.specs.Prelude.{◌≡◌, fold, vec_len};
+ghost use Rattle.measuring.specs.Checksum.{element_in};
+ghost use Rattle.fieldbench.specs.Passes.{passes};
 
 use super::cases::Case;
-use super::generator::Generator;
 use fields::tower::TowerLevel;
-use std::io;
-use std::rt::Clock;
-use std::time::{Duration, Instant};
+use measuring::checksum::checksum;
+use measuring::generator::Generator;
+use measuring::timing::{Outcome, Timed};
+use std::marker::PhantomData;
 
 const SEED: u64 = 2024;
 
@@ -15,53 +17,36 @@ const LENGTH: usize = 4096;
 // Passes over the array in each repetition; odd, so that two inversions do not cancel.
 const PASSES: usize = 7;
 
-const OPERATIONS: u128 = 7 * 4096;
+const OPERATIONS: u32 = 7 * 4096;
 
-struct Outcome {
-    least: Duration,
-    checksum: u64,
+// An array of values and as many operands, for the passes of a case.
+#[derive(Drop)]
+struct Passes<F, X, C> {
+    values: Vec<F>,
+    operands: Vec<X>,
+    case: PhantomData<C>,
+    ghost paired: { vec_len operands ≡ vec_len values },
 }
 
-// The low 64 bits of a number.
-fn low_word(number: u128) -> u64 {
-    (number & 0xffff_ffff_ffff_ffff) as u64
-}
+impl<F: TowerLevel, X: TowerLevel, C: Case<F, X>> Timed for Passes<F, X, C> {
+    ghost repeats = { λ s t. (t.values.items ≡ passes (λ xs. C.Case.after xs s.operands.items) 7 s.values.items) × (t.operands ≡ s.operands) };
 
-// The sum so far with the values after another repetition.
-fn checksum<F: TowerLevel>(so_far: u64, values: &[F]) -> u64 {
-    let mut sum = so_far;
-    for x in values {
-        sum = (sum.rotate_left(5) ^ low_word(x.to_number())).wrapping_mul(0x517c_c1b7_2722_0a95);
-    }
-    sum
-}
+    ghost sum = { λ s so_far. fold (element_in F.TowerLevel.level) so_far s.values.items };
 
-// The least time of a repetition, and the checksum after the last.
-fn repeat<F: TowerLevel, X, C: Case<F, X>>(
-    clock: &impl Clock,
-    values: &mut [F],
-    operands: &[X],
-    repetitions: u32,
-) -> io::Result<Outcome>
-    requires { length operands.now ≡ length values.old }
-{
-    let mut least = Duration::MAX;
-    let mut sum = 0;
-    for _ in 0..repetitions {
-        let start = Instant::now(clock)?;
+    fn repeat(&mut self) -> anyhow::Result<()> {
         for _ in 0..PASSES {
-            C::pass(values, operands);
+            C::pass(self.values.as_mut_slice(), self.operands.as_slice());
         }
-        let time = start.elapsed(clock)?;
-        if time < least {
-            least = time;
-        }
-        sum = checksum(sum, values);
+        Ok(())
     }
-    Ok(Outcome {
-        least,
-        checksum: sum,
-    })
+
+    fn checksum(&self, so_far: u64) -> u64 {
+        checksum(so_far, self.values.as_slice())
+    }
+
+    fn operations(&self) -> u32 {
+        OPERATIONS
+    }
 }
 
 // Prints a case's checksum, and its nanoseconds an operation.
@@ -71,14 +56,10 @@ pub(crate) fn measure<F: TowerLevel, X: TowerLevel, C: Case<F, X>>(
     repetitions: u32,
 ) -> anyhow::Result<()> {
     let mut source = Generator { state: SEED };
-    let mut values = source.elements::<F>(rt.alloc(), LENGTH)?;
-    let operands = source.elements::<X>(rt.alloc(), LENGTH)?;
-    let outcome = repeat::<F, X, C>(rt, values.as_mut_slice(), operands.as_slice(), repetitions)?;
-    let Outcome { least, checksum } = outcome;
-    println!(rt; "{name} {checksum:016x}")?;
-    let nanos = least.as_nanos();
-    let whole = nanos / OPERATIONS;
-    let thousandths = nanos % OPERATIONS * 1000 / OPERATIONS;
-    eprintln!(rt; "{name} {whole}.{thousandths:03}")?;
-    Ok(())
+    let mut passes = Passes::<F, X, C> {
+        values: source.elements(rt.alloc(), LENGTH)?,
+        operands: source.elements(rt.alloc(), LENGTH)?,
+        case: PhantomData,
+    };
+    Outcome::of(&mut passes, rt, repetitions)?.print(rt, name)
 }

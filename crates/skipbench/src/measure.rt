@@ -1,97 +1,113 @@
-// The time of a case, and a checksum of what it leaves.
-ghost use Rattle.std.specs.Prelude.{◌≡◌, ◌<◌, OnOk};
-ghost use Rattle.skip_lde.specs.Tables.{Built};
+// What is timed: the construction of tables, and the extension of packed rows.
+ghost use Rattle.std.specs.Prelude.{◌≡◌, ◌/◌, ◌<◌, OnOk, fold, length};
+ghost use Rattle.measuring.specs.Checksum.{element_in};
+ghost use Rattle.skip_lde.specs.Tables.{Built, SumsEntriesOfRows};
+ghost use Rattle.skip_lde.specs.Rows.{transmitted, bytes_of_row};
 
-use super::checksum::checksum;
-use super::generator::Generator;
 use anyhow::anyhow;
 use fields::tower::TowerLevel;
+use measuring::checksum::checksum;
+use measuring::generator::Generator;
+use measuring::timing::{Outcome, Timed};
 use skip_dimensions::dimensions::Dimensions;
-use skip_lde::fault::CompressedLdeError;
 use skip_lde::lde::CompressedLde;
 use std::alloc::Global;
-use std::rt::Clock;
-use std::time::{Duration, Instant};
 
 const SEED: u64 = 2024;
 
 // Rows that one call extends.
 const ROWS: u32 = 4096;
 
-struct Outcome {
-    least: Duration,
-    checksum: u64,
+// The dimensions of a domain over F.
+fn dimensions_over<F: TowerLevel>(
+    log_size: usize,
+    log_extended: usize,
+) -> anyhow::Result<Dimensions> {
+    Dimensions::new(F::log_bits() as u32, log_size, log_extended).map_err(|_| anyhow!(
+        "there is no such domain"
+    ))
 }
 
-// Room for the table of a domain over F.
+// Room for the table of a domain.
 fn table_room<F: TowerLevel + Clone>(
     heap: Global,
-    log_size: usize,
-    log_extended: usize,
+    dimensions: Dimensions,
 ) -> anyhow::Result<Vec<F>> {
-    match Dimensions::new(F::log_bits() as u32, log_size, log_extended) {
-        Ok(dimensions) => {
-            let length = dimensions.num_transmitted().saturating_mul(256);
-            Ok(vec![in heap; F::zero(); length]?)
-        }
-        Err(_) => Err(anyhow!("there is no such domain")),
-    }
+    let length = dimensions.num_transmitted().saturating_mul(256);
+    Ok(vec![in heap; F::zero(); length]?)
 }
 
-// Builds the table so many times, at least once.
-fn build<F: TowerLevel>(
-    log_size: usize,
-    log_extended: usize,
-    table: &mut [F],
-    count: u32,
-) -> Result<CompressedLde<F>, CompressedLdeError>
-    ensures { OnOk result (Built F.Field.ops F.TowerLevel.level log_size log_extended table.new) }
+// Builds the table of a domain.
+fn build<F: TowerLevel>(dimensions: Dimensions, table: &mut [F]) -> anyhow::Result<CompressedLde<F>>
+    ensures { OnOk result (Built F.Field.ops F.TowerLevel.level dimensions.log_size dimensions.log_extended table.new) }
 {
-    for _ in 1..count {
-        let _ = CompressedLde::<F>::new(log_size, log_extended, table);
-    }
-    CompressedLde::new(log_size, log_extended, table)
+    CompressedLde::from_dimensions(dimensions, table).map_err(|_| anyhow!("the table is refused"))
 }
 
-// Prints a case's checksum, and its nanoseconds a row or a table.
-fn print_outcome(rt: &HostRuntime, name: &str, outcome: Outcome, count: u32) -> anyhow::Result<()>
-    requires { 0 < count }
-{
-    let Outcome { least, checksum } = outcome;
-    println!(rt; "{name} {checksum:016x}")?;
-    let nanos = least.as_nanos();
-    let whole = nanos / count as u128;
-    let thousandths = nanos % count as u128 * 1000 / count as u128;
-    eprintln!(rt; "{name} {whole}.{thousandths:03}")?;
-    Ok(())
-}
-
-// Builds a table in each repetition, `count` times.
-fn time_tables<F: TowerLevel>(
-    clock: &impl Clock,
-    log_size: usize,
-    log_extended: usize,
-    table: &mut [F],
+// A table, which a repetition builds `count` times.
+#[derive(Drop)]
+struct Tables<F> {
+    dimensions: Dimensions,
+    table: Vec<F>,
     count: u32,
-    repetitions: u32,
-) -> anyhow::Result<Outcome> {
-    let mut least = Duration::MAX;
-    for _ in 0..repetitions {
-        let start = Instant::now(clock)?;
-        let built = build(log_size, log_extended, table, count);
-        let time = start.elapsed(clock)?;
-        if built.is_err() {
-            return Err(anyhow!("the table is refused"));
-        }
-        least = least.min(time);
-    }
-    Ok(Outcome {
-        least,
-        checksum: checksum(0, table),
-    })
+    ghost some: { 0 < count },
 }
 
-// Times the construction of a table.
+impl<F: TowerLevel> Timed for Tables<F> {
+    ghost repeats = { λ s t. Built F.Field.ops F.TowerLevel.level s.dimensions.log_size s.dimensions.log_extended t.table.items };
+
+    ghost sum = { λ s _. fold (element_in F.TowerLevel.level) 0 s.table.items };
+
+    fn repeat(&mut self) -> anyhow::Result<()> {
+        for _ in 0..self.count {
+            build(self.dimensions, self.table.as_mut_slice())?;
+        }
+        Ok(())
+    }
+
+    fn checksum(&self, _so_far: u64) -> u64 {
+        checksum(0, self.table.as_slice())
+    }
+
+    fn operations(&self) -> u32 {
+        self.count
+    }
+}
+
+// Packed rows, which a repetition extends from the table of a domain.
+#[derive(Drop)]
+struct Rows<F> {
+    lde: CompressedLde<F>,
+    table: Vec<F>,
+    rows: Vec<u8>,
+    out: Vec<F>,
+}
+
+impl<F: TowerLevel> Timed for Rows<F> {
+    ghost repeats = { λ s t. let d = s.lde.dimensions in SumsEntriesOfRows F.Field.ops (transmitted d.log_size d.log_extended) (bytes_of_row d.log_size) s.table.items s.rows.items (length s.rows.items / bytes_of_row d.log_size) t.out.items };
+
+    ghost sum = { λ s so_far. fold (element_in F.TowerLevel.level) so_far s.out.items };
+
+    fn repeat(&mut self) -> anyhow::Result<()> {
+        self.lde
+            .extend_batch(
+                self.table.as_slice(),
+                self.rows.as_slice(),
+                self.out.as_mut_slice(),
+            )
+            .map_err(|_| anyhow!("the rows are refused"))
+    }
+
+    fn checksum(&self, so_far: u64) -> u64 {
+        checksum(so_far, self.out.as_slice())
+    }
+
+    fn operations(&self) -> u32 {
+        ROWS
+    }
+}
+
+// Times the construction of a table, `count` times in each repetition.
 pub(crate) fn measure_table<F: TowerLevel + Clone>(
     rt: &HostRuntime,
     name: &str,
@@ -102,43 +118,13 @@ pub(crate) fn measure_table<F: TowerLevel + Clone>(
 ) -> anyhow::Result<()>
     requires { 0 < count }
 {
-    let mut table = table_room::<F>(rt.alloc(), log_size, log_extended)?;
-    let outcome = time_tables(
-        rt,
-        log_size,
-        log_extended,
-        table.as_mut_slice(),
+    let dimensions = dimensions_over::<F>(log_size, log_extended)?;
+    let mut tables = Tables {
+        dimensions,
+        table: table_room::<F>(rt.alloc(), dimensions)?,
         count,
-        repetitions,
-    )?;
-    print_outcome(rt, name, outcome, count)
-}
-
-// Extends the rows in each repetition.
-fn time_rows<F: TowerLevel>(
-    clock: &impl Clock,
-    lde: CompressedLde<F>,
-    table: &[F],
-    rows: &[u8],
-    out: &mut [F],
-    repetitions: u32,
-) -> anyhow::Result<Outcome> {
-    let mut least = Duration::MAX;
-    let mut sum = 0;
-    for _ in 0..repetitions {
-        let start = Instant::now(clock)?;
-        let extended = lde.extend_batch(table, rows, out);
-        let time = start.elapsed(clock)?;
-        if extended.is_err() {
-            return Err(anyhow!("the rows are refused"));
-        }
-        least = least.min(time);
-        sum = checksum(sum, out);
-    }
-    Ok(Outcome {
-        least,
-        checksum: sum,
-    })
+    };
+    Outcome::of(&mut tables, rt, repetitions)?.print(rt, name)
 }
 
 // Times the extension of packed rows.
@@ -149,21 +135,17 @@ pub(crate) fn measure_rows<F: TowerLevel + Clone>(
     log_extended: usize,
     repetitions: u32,
 ) -> anyhow::Result<()> {
-    let mut table = table_room::<F>(rt.alloc(), log_size, log_extended)?;
-    let Ok(lde) = build(log_size, log_extended, table.as_mut_slice(), 1) else {
-        return Err(anyhow!("the table is refused"));
-    };
+    let dimensions = dimensions_over::<F>(log_size, log_extended)?;
+    let mut table = table_room::<F>(rt.alloc(), dimensions)?;
+    let lde = build(dimensions, table.as_mut_slice())?;
     let count = ROWS as usize;
-    let mut source = Generator { state: SEED };
-    let rows = source.bytes(rt.alloc(), count.saturating_mul(lde.num_chunks()))?;
-    let mut out = vec![in rt.alloc(); F::zero(); count.saturating_mul(lde.num_transmitted())]?;
-    let outcome = time_rows(
-        rt,
+    let rows = Generator { state: SEED }.bytes(rt.alloc(), count.saturating_mul(lde.num_chunks()))?;
+    let out = vec![in rt.alloc(); F::zero(); count.saturating_mul(lde.num_transmitted())]?;
+    let mut extension = Rows {
         lde,
-        table.as_slice(),
-        rows.as_slice(),
-        out.as_mut_slice(),
-        repetitions,
-    )?;
-    print_outcome(rt, name, outcome, ROWS)
+        table,
+        rows,
+        out,
+    };
+    Outcome::of(&mut extension, rt, repetitions)?.print(rt, name)
 }
