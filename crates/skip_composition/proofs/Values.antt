@@ -2,7 +2,7 @@
 -- polynomial in one variable, and their images in an extension.
 use Rattle.std.proofs.Common.{◌≡◌, ℕ, zero, suc, ◌-◌, ◌*◌, ◌<◌, ◌≤◌, List, [], ◌∷◌, ◌++◌, map, length, replicate, sym, refl, ap, ◌∙◌, ap₂, mul-le-mul_right, arith}
 use Rattle.fields.specs.Field.{Operations, FieldLaws}
-use Rattle.fields.specs.Extension.{Embedding, Keeps}
+use Rattle.fields.specs.Extension.{Keeps}
 use Rattle.algebra.specs.Polynomials.{Below}
 use Rattle.algebra.specs.Embeddings.{Embeds}
 use Rattle.algebra.proofs.Degrees.{degree_more, degree_zero, degree_constant, degree_add, degree_scale, degree_product}
@@ -72,5 +72,5 @@ module _ {F E : Type 0} {o : Operations F} {p : Operations E} {e : F → E} (L :
   ones_embed (is ∷ ms) at = ap₂ (λ u w. p.sum (p.product u (operand_product p is at)) w) H.one (ones_embed ms at)
 
 -- an embedding of an interface is an embedding
-pub embeds : {F E : Type 0} {o : Operations F} {p : Operations E} {m : Embedding F E} → Keeps o p m → Embeds o p m.embed
+pub embeds : {F E : Type 0} {o : Operations F} {p : Operations E} {e : F → E} → Keeps o p e → Embeds o p e
 embeds k = record { one = k.one; sum = k.sum; product = k.product }
