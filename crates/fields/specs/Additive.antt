@@ -3,7 +3,8 @@ use Rattle.std.specs.Prelude.{◌≡◌, ℕ, zero, suc, ◌/◌, ◌%◌, ◌^�
 use Rattle.std.proofs.Common.{sym, ap, ap₂, ◌∙◌, arith, eqb→eq, pow_pos}
 use Rattle.std.specs.Int.Bits.{xor_assoc, xor_self, xor_zero_r}
 use Rattle.std.proofs.lemmas.Nat.{xor_comm, xor_shr, xor_mod, xor_lt}
-use Rattle.fields.specs.Bytes.{bit_set, sum_bits, linear}
+use Rattle.fields.specs.Bytes.{sum_bits, linear}
+use Rattle.fields.specs.Tower.{bit_set}
 use Rattle.fields.specs.Tests.{every_at}
 
 abbrev pub Additive : (ℕ → ℕ) → Type 0

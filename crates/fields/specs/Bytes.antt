@@ -1,15 +1,11 @@
 -- Bytes as sums of monomials. Bit i stands for the product of those X_k whose bit k is set in i: 1, X0, X1, X0X1, X2, X0X2, X1X2, X0X1X2.
 -- X0² = X0 + 1, X1² = X1 + X0, X2² = X2 + X0X1. A sum is an exclusive or.
-use Rattle.std.specs.Prelude.{◌≡◌, ℕ, zero, suc, ◌+◌, ◌-◌, ◌/◌, ◌%◌, ◌^◌, ◌<◌, ◌≤◌, Bool, cond, ◌&&◌, List, [], ◌∷◌, Some, None, Option, ◌==◌, bit_xor}
+use Rattle.std.specs.Prelude.{◌≡◌, ℕ, zero, suc, ◌+◌, ◌-◌, ◌%◌, ◌^◌, ◌<◌, ◌≤◌, Bool, cond, ◌&&◌, List, [], ◌∷◌, Some, None, Option, ◌==◌, bit_xor}
 use Rattle.std.proofs.Common.{mod-lt, lit<}
 use Rattle.std.specs.Option.{option_map}
 use Rattle.fields.specs.declared.byte.Byte.{Byte}
 use Rattle.fields.specs.Field.{Operations}
-use Rattle.fields.specs.Tower.{Level}
-
--- whether bit k of n is set
-abbrev pub bit_set : ℕ → ℕ → Bool
-bit_set n k = n / 2 ^ k % 2 == 1
+use Rattle.fields.specs.Tower.{Level, bit_set}
 
 -- the sum of f i over the set bits i of n below k
 abbrev pub sum_bits : ℕ → (ℕ → ℕ) → ℕ → ℕ

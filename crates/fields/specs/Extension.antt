@@ -6,11 +6,11 @@ pub record Embedding (F E : Type 0) : Type 0 where
   pub embed : F → E
   pub base : E → Option F
 
--- the embedding keeps one, sums and products
-pub record Keeps {F E : Type 0} (o : Operations F) (p : Operations E) (m : Embedding F E) : Type 0 where
-  pub one : m.embed o.one ≡ p.one
-  pub sum : (x y : F) → m.embed (o.sum x y) ≡ p.sum (m.embed x) (m.embed y)
-  pub product : (x y : F) → m.embed (o.product x y) ≡ p.product (m.embed x) (m.embed y)
+-- e keeps one, sums and products
+pub record Keeps {F E : Type 0} (o : Operations F) (p : Operations E) (e : F → E) : Type 0 where
+  pub one : e o.one ≡ p.one
+  pub sum : (x y : F) → e (o.sum x y) ≡ p.sum (e x) (e y)
+  pub product : (x y : F) → e (o.product x y) ≡ p.product (e x) (e y)
 
 -- the element whose image e is, or none exactly if e is no image
 abbrev pub Lies : {F E : Type 0} → Embedding F E → E → Option F → Type 0
@@ -18,7 +18,7 @@ Lies m e (Some x) = m.embed x ≡ e
 Lies {F} m e None = (x : F) → m.embed x ≢ e
 
 pub record ExtensionLaws {F E : Type 0} (o : Operations F) (p : Operations E) (m : Embedding F E) : Type 0 where
-  pub keeps : Keeps o p m
+  pub keeps : Keeps o p m.embed
   pub lies : (e : E) → Lies m e (m.base e)
 
 -- a field extends itself

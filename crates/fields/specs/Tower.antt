@@ -1,5 +1,5 @@
 -- A level of a tower of fields: elements as numbers, the equation y² + y = t, and the Cantor basis (Cantor 1989).
-use Rattle.std.specs.Prelude.{◌≡◌, ℕ, zero, suc, ◌%◌, ◌^◌, ◌<◌, not, is_some, Some, None, Option, ◌≢◌, bit_xor, nat_lt}
+use Rattle.std.specs.Prelude.{◌≡◌, ℕ, zero, suc, ◌/◌, ◌%◌, ◌^◌, ◌<◌, Bool, not, is_some, Some, None, Option, ◌==◌, ◌≢◌, bit_xor, nat_lt}
 use Rattle.fields.specs.Field.{Operations}
 
 -- the base 2 logarithm of the number of bits, an element's number, the element top, and the solutions of y² + y = t
@@ -24,6 +24,10 @@ solution l None = None
 abbrev pub cantor : {F : Type 0} → Operations F → Level F → ℕ → Option F
 cantor o l zero = Some o.one
 cantor o l (suc j) = solution l (cantor o l j)
+
+-- whether bit k of n is set
+abbrev pub bit_set : ℕ → ℕ → Bool
+bit_set n k = n / 2 ^ k % 2 == 1
 
 -- one-to-one between the elements and the numbers of that width; a sum is an exclusive or
 pub record NumberForm {F : Type 0} (o : Operations F) (l : Level F) : Type 0 where

@@ -18,7 +18,7 @@ pub trait ExtensionField<F: Field, D>: Field {
 
     fn embed(x: F) -> Self
         ensures image { result ≡ over.embed x }
-        ensures keeps { Keeps F.Field.ops Self.Field.ops over };
+        ensures keeps { Keeps F.Field.ops Self.Field.ops over.embed };
 
     // The element of the base field whose image this is, or None if there is none.
     fn as_base(self) -> Option<F>

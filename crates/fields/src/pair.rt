@@ -64,6 +64,7 @@ impl<B: TowerLevel> Field for Pair<B> {
     }
 
     // With three products of halves, not four.
+    #[tactic(auto, using(crate::specs::PairLaws::three_products))]
     fn product(self, other: Pair<B>) -> Pair<B> {
         let lows = self.low.product(other.low);
         let highs = self.high.product(other.high);
@@ -117,6 +118,7 @@ impl<B: TowerLevel> TowerLevel for Pair<B> {
         }
     }
 
+    #[tactic(auto, using(crate::specs::PairLaws::top_product))]
     fn times_top(self) -> Pair<B> {
         Pair {
             low: self.high.times_top().times_top(),
@@ -163,6 +165,7 @@ where
         }
     }
 
+    #[tactic(auto, using(crate::specs::PairExtends::scale_halves))]
     fn scale(self, x: F) -> Pair<B> {
         Pair {
             low: self.low.scale(x),

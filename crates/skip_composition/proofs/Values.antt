@@ -3,7 +3,7 @@
 use Rattle.std.proofs.Common.{◌≡◌, ℕ, zero, suc, ◌-◌, ◌*◌, ◌<◌, ◌≤◌, List, [], ◌∷◌, ◌++◌, map, length, replicate, get_or, sym, refl, ap, ◌∙◌, ap₂, mul-le-mul_right, arith}
 use Rattle.std.proofs.Math.ListN.{get_or-map}
 use Rattle.fields.specs.Field.{Operations, FieldLaws}
-use Rattle.fields.specs.Extension.{Embedding, Keeps}
+use Rattle.fields.specs.Extension.{Keeps}
 use Rattle.algebra.specs.Polynomials.{Below}
 use Rattle.algebra.specs.Embeddings.{Embeds}
 use Rattle.algebra.proofs.Degrees.{degree_more, degree_zero, degree_constant, degree_add, degree_scale, degree_product}
@@ -67,7 +67,7 @@ ones_embed H [] at = refl
 ones_embed {p} H (is ∷ ms) at = ap₂ (λ u w. p.sum (p.product u (operand_product p is at)) w) H.one (ones_embed H ms at)
 
 -- an embedding of an interface is an embedding
-pub embeds : {F E : Type 0} {o : Operations F} {p : Operations E} {m : Embedding F E} → Keeps o p m → Embeds o p m.embed
+pub embeds : {F E : Type 0} {o : Operations F} {p : Operations E} {e : F → E} → Keeps o p e → Embeds o p e
 embeds k = record { one = k.one; sum = k.sum; product = k.product }
 
 -- at the images of a list of operands, a polynomial has its value's image

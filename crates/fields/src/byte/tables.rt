@@ -117,6 +117,7 @@ const SOLUTIONS: &[u8; 128] = b"\
 const BASIS: [u8; 8] = [0x01, 0x02, 0x04, 0x0A, 0x14, 0x20, 0x4C, 0xAE];
 
 // A power of the generator; zero from 510 on.
+#[tactic(auto, using(crate::specs::ByteTables::exps_are))]
 pub(super) fn exp(i: usize) -> u8
     requires { i < 1021 }
     ensures { result ≡ (if nat_lt i 510 then power i else 0) }
@@ -131,6 +132,7 @@ pub(super) fn log(x: u8) -> usize
     LOG[x as usize] as usize
 }
 
+#[tactic(auto, using(crate::specs::ByteTables::top_products_are))]
 pub(super) fn top_product(x: u8) -> u8
     ensures { result ≡ bilinear x 128 }
 {
