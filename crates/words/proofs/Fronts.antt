@@ -1,7 +1,7 @@
 -- The longest front of a list that passes a test, and what follows it.
-use Rattle.std.proofs.Common.{◌≡◌, ℕ, suc, ◌+◌, ◌<◌, ◌≤◌, Bool, true, false, cond, not, ltb, ◌&&◌, Some, None, List, [], ◌∷◌, ◌++◌, length, get_or, take, drop, sym, refl, ap, ◌∙◌, subst, one-add, arith}
+use Rattle.std.proofs.Common.{◌≡◌, ℕ, suc, ◌+◌, ◌≤◌, Bool, true, false, cond, not, ltb, ◌&&◌, Some, None, List, [], ◌∷◌, ◌++◌, length, take, drop, refl, ap, ◌∙◌, one-add, arith}
 use Rattle.std.proofs.lemmas.List.Sums.{prefix_len-le-length}
-use Rattle.std.proofs.lemmas.Bool.{ltb-false, and_from, and_parts, cond-true, true≢false}
+use Rattle.std.proofs.lemmas.Bool.{ltb-false, and_from, and_parts, cond-true}
 use Rattle.std.specs.Option.{unwrap_or}
 use Rattle.std.specs.List.{prefix_len, position, position_or_len}
 use Rattle.words.specs.Pieces.{every}
@@ -32,14 +32,6 @@ pub every_whole : (p : ℕ → Bool) (xs : List ℕ) → length xs ≤ prefix_le
 every_whole p [] h = refl
 every_whole p (b ∷ bs) h = whole p b bs (p b) (every_whole p bs) h
 
-broken : (p : ℕ → Bool) (b : ℕ) (bs : List ℕ) (t : Bool) → (prefix_len p bs < length bs → every p bs ≡ false) → cond t (1 + prefix_len p bs) 0 < suc (length bs) → (t && every p bs) ≡ false
-broken p b bs true ih h = ih (omega arith)
-broken p b bs false ih h = refl
-
-pub every_broken : (p : ℕ → Bool) (xs : List ℕ) → prefix_len p xs < length xs → every p xs ≡ false
-every_broken p [] h = absurd (omega arith)
-every_broken p (b ∷ bs) h = broken p b bs (p b) (every_broken p bs) h
-
 front_passes : (p : ℕ → Bool) (b : ℕ) (bs : List ℕ) (t : Bool) → p b ≡ t → every p (take (prefix_len p bs) bs) ≡ true → every p (take (cond t (1 + prefix_len p bs) 0) (b ∷ bs)) ≡ true
 front_passes p b bs true e ih = ap (λ n. every p (take n (b ∷ bs))) (one-add (prefix_len p bs)) ∙ and_from _ _ e ih
 front_passes p b bs false e ih = refl
@@ -57,19 +49,3 @@ leading_every p [] h = refl
 leading_every p (b ∷ bs) h =
     let parts = and_parts (p b) (every p bs) h in
     cond-true (p b) (1 + prefix_len p bs) 0 parts.0 ∙ omega (arith, leading_every p bs parts.1)
-
--- the longest front ends before a byte that fails
-pub record Stops (p : ℕ → Bool) (xs : List ℕ) (n : ℕ) : Type 0 where
-  pub within : n < length xs
-  pub fails : p (get_or xs n 0) ≡ false
-
-stops_on : (p : ℕ → Bool) (b : ℕ) (bs : List ℕ) (t : Bool) → p b ≡ t → (every p bs ≡ false → Stops p bs (prefix_len p bs)) → (t && every p bs) ≡ false →
-    Stops p (b ∷ bs) (cond t (1 + prefix_len p bs) 0)
-stops_on p b bs true e ih h =
-    let s = ih h in
-    subst (Stops p (b ∷ bs)) (sym (one-add (prefix_len p bs))) (record { within = omega (arith, s.within); fails = s.fails })
-stops_on p b bs false e ih h = record { within = omega arith; fails = e }
-
-pub leading_stop : (p : ℕ → Bool) (xs : List ℕ) → every p xs ≡ false → Stops p xs (prefix_len p xs)
-leading_stop p [] h = absurd (true≢false h)
-leading_stop p (b ∷ bs) h = stops_on p b bs (p b) refl (leading_stop p bs) h

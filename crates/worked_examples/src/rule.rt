@@ -8,14 +8,11 @@ use std::test::Fail;
 
 #[test]
 fn arity_and_degree_of_each_code(rt: HostRuntime) -> Result<(), Fail> {
-    let arities = [1, 1, 3, 4];
-    let degrees = [1, 2, 2, 3];
-    for code in 0..4 {
-        let Some(rule) = Rule::from_code(code) else {
-            return Err(Fail::new("a code has no rule"));
-        };
-        assert_eq!(rt; rule.arity(), arities[code]);
-        assert_eq!(rt; rule.degree(), degrees[code]);
+    let arities_and_degrees = [(1, 1), (1, 2), (3, 2), (4, 3)];
+    for (code, &(arity, degree)) in arities_and_degrees.iter().enumerate() {
+        let rule = Rule::from_code(code).ok_or("a code has no rule")?;
+        assert_eq!(rt; rule.arity(), arity);
+        assert_eq!(rt; rule.degree(), degree);
     }
     Ok(())
 }

@@ -29,13 +29,11 @@ fn decimals_stay_below_two_to_the_64(rt: HostRuntime) {
 fn return_before_line_feed_is_dropped(rt: HostRuntime) -> Result<(), Fail> {
     let mut buffer = LineBuffer::new();
     assert_eq!(rt; buffer.feed(b"ab\r\ncd"), Some(4));
-    match buffer.line() {
-        Line::Text(text) => {
-            assert!(rt; text == b"ab".as_slice());
-            Ok(())
-        },
-        _ => Err(Fail::new("no text")),
-    }
+    let Line::Text(text) = buffer.line() else {
+        return Err(Fail::new("no text"));
+    };
+    assert!(rt; text == b"ab".as_slice());
+    Ok(())
 }
 
 #[test]
