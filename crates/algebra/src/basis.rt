@@ -7,7 +7,7 @@ use fields::field::Field;
 use fields::tower::TowerLevel;
 
 // Element r of the basis, or zero where the basis has none.
-fn basis_or_zero<F: TowerLevel>(r: usize) -> F
+pub fn basis_or_zero<F: TowerLevel>(r: usize) -> F
     ensures { result ≡ basis_element_or_zero F.Field.ops F.TowerLevel.level r }
 {
     match F::cantor_basis(r) {

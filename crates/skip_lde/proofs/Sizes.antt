@@ -1,5 +1,5 @@
 -- The sizes of a domain of dimensions s and e: whole bytes, whole blocks, and shifts that stay within the transmitted points.
-use Rattle.std.proofs.Common.{◌≡◌, ℕ, ◌+◌, ◌-◌, ◌*◌, ◌/◌, ◌^◌, ◌<◌, ◌≤◌, sym, ap, ◌∙◌, subst, div-lt_iff_lt-mul, arith, pow_pos, pow_mono}
+use Rattle.std.proofs.Common.{◌≡◌, ℕ, ◌+◌, ◌-◌, ◌*◌, ◌/◌, ◌^◌, ◌<◌, ◌≤◌, sym, ap, ◌∙◌, subst, div-lt_iff_lt-mul, arith, pow_pos}
 use native.Mathlib.Nat.{div-eq_of_lt}
 use lib.Bits.{bit_xor, xor_shr, xor_zero_r}
 use Rattle.std.proofs.lemmas.Nat.{pow-add}
@@ -50,15 +50,4 @@ block_shifted s e q b t h l m =
     let n = blocks_of s e t h in
     let w = bytes_of s t in
     let x = xor_within (s - 3) (2 ^ (e - s) - 1) q b (omega arith) (omega arith) in
-    omega arith
-
-pub transmitted_below : (s e : ℕ) → e ≤ 16 → transmitted s e < 2 ^ 17
-transmitted_below s e h = let p : 2 ^ e ≤ 2 ^ 16 = pow_mono h in omega arith
-
-pub transmitted_some : (s e : ℕ) → 3 ≤ s → s < e → 8 ≤ transmitted s e
-transmitted_some s e t h =
-    let a : 2 ^ 1 * 2 ^ s ≡ 2 ^ (1 + s) = sym (pow-add 2 1 s) in
-    let l : 1 + s ≤ e = omega arith in
-    let b : 2 ^ (1 + s) ≤ 2 ^ e = pow_mono l in
-    let c : 2 ^ 3 ≤ 2 ^ s = pow_mono t in
     omega arith

@@ -1,7 +1,7 @@
 -- Loops that write one place after another: what stands before the place is done, the rest is as it was.
-use Rattle.std.proofs.Common.{◌≡◌, ℕ, ◌+◌, ◌*◌, ◌/◌, ◌<◌, ◌≤◌, ◌≢◌, List, ◌++◌, length, get_or, take, set, sym, ap, ◌∙◌, inl, inr, arith, get_or-set_other, get_or-set_same, below_more}
+use Rattle.std.proofs.Common.{◌≡◌, ℕ, ◌+◌, ◌-◌, ◌*◌, ◌/◌, ◌<◌, ◌≤◌, ◌≢◌, List, ◌++◌, length, get_or, take, drop, set, sym, ap, ◌∙◌, inl, inr, arith, get_or-set_other, get_or-set_same, below_more}
 use borrow.Rule.Slice.PartMut.{put_mid, post_of}
-use Rattle.std.proofs.lemmas.List.{get_or_append_left, get_or-append-add, get_or-take, length-take-le}
+use Rattle.std.proofs.lemmas.List.{get_or_append_left, get_or-append-add, get_or-append_right, get_or-take, get_or-drop, length-take-le}
 use Rattle.std.proofs.lemmas.Nat.{mul-le, mul-add-lt, div-add-mod'}
 use Rattle.std.proofs.lemmas.Bool.{cases_lt}
 
@@ -47,16 +47,20 @@ row_within r w b h = let d = div-add-mod' b w in let m = mul-le (r + 1) w (b / w
 pub row_among : (r n c : ℕ) → r < c → r * n + n ≤ c * n
 row_among r n c h = let m = mul-le (r + 1) n c n (omega arith) (omega arith) in omega arith
 
--- place i of a row that begins at a
-module _ {F : Type 0} (z : F) (xs : List F) (a i at : ℕ) (y : F) (e : at ≡ a + i) where
-  pub row_place_written : (f : ℕ → F) → at < length xs → ((k : ℕ) → k < i → get_or xs (a + k) z ≡ f k) → y ≡ f i → (k : ℕ) → k < i + 1 → get_or (set xs at y) (a + k) z ≡ f k
-  row_place_written f l done s =
-      below_more (λ k. get_or (set xs at y) (a + k) z ≡ f k) i
-      (λ k h. let d : a + k ≢ at = omega arith in get_or-set_other xs at (a + k) y z d ∙ done k h)
-      (ap (λ x. get_or (set xs at y) x z) (sym e) ∙ get_or-set_same xs at y z l ∙ s)
+-- a list of three parts: the middle one from a on, and the last one as it stands in the rest zs
+pub middle_part : {F : Type 0} (z : F) (xs ys zs : List F) (a : ℕ) → length xs ≡ a → (k : ℕ) → k < length ys → get_or (xs ++ (ys ++ zs)) (a + k) z ≡ get_or ys k z
+middle_part z xs ys zs a e k h =
+    ap (λ m. get_or (xs ++ (ys ++ zs)) (m + k) z) (sym e) ∙ get_or-append-add xs (ys ++ zs) k z ∙ get_or_append_left ys zs z k h
 
-  pub before_row_place : (g : ℕ → F) → ((p : ℕ) → p < a → get_or xs p z ≡ g p) → (p : ℕ) → p < a → get_or (set xs at y) p z ≡ g p
-  before_row_place g same p h = let d : p ≢ at = omega arith in get_or-set_other xs at p y z d ∙ same p h
+pub last_part : {F : Type 0} (z : F) (xs ys zs : List F) (a n : ℕ) → length xs ≡ a → length ys ≡ n → (p : ℕ) → a + n ≤ p → get_or (xs ++ (ys ++ drop n zs)) p z ≡ get_or (xs ++ zs) p z
+last_part z xs ys zs a n e f p h =
+    let k : n + (p - a - n) ≡ p - a = omega arith in
+    get_or-append_right xs (ys ++ drop n zs) a p z e (omega arith) ∙ get_or-append_right ys (drop n zs) n (p - a) z f (omega arith)
+    ∙ get_or-drop n zs (p - a - n) z ∙ ap (λ i. get_or zs i z) k ∙ sym (get_or-append_right xs zs a p z e (omega arith))
 
-  pub after_row_place : (g : ℕ → F) → ((p : ℕ) → a + i ≤ p → get_or xs p z ≡ g p) → (p : ℕ) → a + (i + 1) ≤ p → get_or (set xs at y) p z ≡ g p
-  after_row_place g same p h = let d : p ≢ at = omega arith in get_or-set_other xs at p y z d ∙ same p (omega arith)
+-- place i of row r, in the first v rows of n places
+pub earlier_row : {F : Type 0} (z : F) (xs ys : List F) (v n r i : ℕ) → xs ≡ take (v * n) ys → r < v → i < n → get_or (take (r * n + n - r * n) (drop (r * n) xs)) i z ≡ get_or ys (r * n + i) z
+earlier_row z xs ys v n r i e h k =
+    let w : r * n + n - r * n ≡ n = omega arith in
+    ap (λ m. get_or (take m (drop (r * n) xs)) i z) w ∙ get_or-take n (drop (r * n) xs) i z k ∙ get_or-drop (r * n) xs i z
+    ∙ ap (λ l. get_or l (r * n + i) z) e ∙ get_or-take (v * n) ys (r * n + i) z (omega (arith, mul-add-lt r n i v h k))

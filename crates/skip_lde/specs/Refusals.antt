@@ -3,7 +3,7 @@
 -- is the one reported.
 use Rattle.std.specs.Prelude.{ℕ, ◌*◌, ◌/◌, ◌%◌, ◌^◌, cond, List, [], ◌∷◌, Some, None, Ok, Err, Option, Result, ◌==◌, nat_lt}
 use Rattle.skip_dimensions.specs.Refusals as domain
-use Rattle.skip_dimensions.specs.Refusals.{Report}
+use Rattle.skip_dimensions.specs.Refusals.{Report, wrong_length, first_of}
 use Rattle.skip_lde.specs.Rows.{transmitted, bytes_of_row}
 use Rattle.skip_lde.specs.declared.fault.CompressedLdeError.{CompressedLdeError}
 use Rattle.skip_lde.specs.declared.fault.CompressedLdeError.TheVariants.{Domain, NotWholeRows, TooManyRows, BufferLenMismatch}
@@ -24,21 +24,11 @@ values_of (BufferLenMismatch p x a) = p ∷ x ∷ a ∷ []
 
 -- what a call that may refuse reports
 abbrev pub reported : {X : Type 0} → Result X CompressedLdeError → Option Report
-reported (Ok x) = None
-reported (Err f) = Some (number_of f, values_of f)
-
--- a buffer of a elements where x are wanted
-abbrev pub wrong_length : ℕ → ℕ → ℕ → Option Report
-wrong_length p x a = cond (a == x) None (Some (5, p ∷ x ∷ a ∷ []))
-
--- the first of two causes
-abbrev pub first : Option Report → Option Report → Option Report
-first (Some f) next = Some f
-first None next = next
+reported = domain.reported_by number_of values_of
 
 -- the causes of construction over a field of 2 ^ b bits, at dimensions s and e and a table of t elements
 abbrev pub construction : ℕ → ℕ → ℕ → ℕ → Option Report
-construction b s e t = first (domain.construction b s e) (wrong_length 2 (256 * transmitted s e) t)
+construction b s e t = first_of (domain.construction b s e) (wrong_length 2 (256 * transmitted s e) t)
 
 -- over 2 ^ 32 whole rows of w bytes among b bytes
 abbrev pub too_many : ℕ → ℕ → Option Report
@@ -47,13 +37,13 @@ too_many w b = cond (nat_lt (2 ^ 32) (b / w)) (Some (10, b / w ∷ [])) None
 -- the causes of extending one packed row of b bytes, from a table of t elements into x outputs
 abbrev pub of_one_row : ℕ → ℕ → ℕ → ℕ → ℕ → Option Report
 of_one_row s e t b x =
-    first (too_many (bytes_of_row s) b)
-    (first (cond (b == bytes_of_row s) None (Some (9, b ∷ [])))
-    (first (wrong_length 2 (256 * transmitted s e) t) (wrong_length 4 (transmitted s e) x)))
+    first_of (too_many (bytes_of_row s) b)
+    (first_of (cond (b == bytes_of_row s) None (Some (9, b ∷ [])))
+    (first_of (wrong_length 2 (256 * transmitted s e) t) (wrong_length 4 (transmitted s e) x)))
 
 -- the causes of extending whole packed rows
 abbrev pub of_rows : ℕ → ℕ → ℕ → ℕ → ℕ → Option Report
 of_rows s e t b x =
-    first (too_many (bytes_of_row s) b)
-    (first (cond (b % bytes_of_row s == 0) None (Some (9, b ∷ [])))
-    (first (wrong_length 2 (256 * transmitted s e) t) (wrong_length 4 (b / bytes_of_row s * transmitted s e) x)))
+    first_of (too_many (bytes_of_row s) b)
+    (first_of (cond (b % bytes_of_row s == 0) None (Some (9, b ∷ [])))
+    (first_of (wrong_length 2 (256 * transmitted s e) t) (wrong_length 4 (b / bytes_of_row s * transmitted s e) x)))

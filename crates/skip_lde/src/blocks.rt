@@ -1,89 +1,93 @@
 // Extending one packed row, eight outputs at a time: a byte at another place of the row takes whole
 // blocks of the table in another order.
-ghost use Rattle.std.specs.Prelude.{◌≡◌, ℕ, ◌+◌, ◌-◌, ◌*◌, ◌/◌, ◌^◌, ◌<◌, ◌≤◌, length, bit_xor, slice_index_or};
+ghost use Rattle.std.specs.Prelude.{◌≡◌, ℕ, ◌+◌, ◌*◌, ◌/◌, ◌^◌, ◌<◌, ◌≤◌, length, take, drop, bit_xor, slice_index_or};
 ghost use Rattle.skip_lde.specs.Rows.{transmitted, bytes_of_row};
-ghost use Rattle.skip_lde.specs.Tables.{Built, entries_sum, SumsEntries, Extends};
+ghost use Rattle.skip_lde.specs.Tables.{entries_sum, SumsEntries};
 
 use fields::field::Field;
-use fields::tower::TowerLevel;
 use skip_dimensions::dimensions::Dimensions;
 
-// Adds eight neighbouring entries of the table to the eight sums.
-fn add_block<F: Field>(sums: &mut [F], table: &[F], at: usize)
-    requires eight { length sums.old ≡ 8 }
-    requires within { at + 8 ≤ length table.now }
-    ensures { (k : ℕ) → k < 8 → slice_index_or sums.new k F.Field.ops.zero ≡ F.Field.ops.sum (slice_index_or sums.old k F.Field.ops.zero) (slice_index_or table.now (at + k) F.Field.ops.zero) }
+// The table of a domain: 256 rows of `width` entries, one row for each value of a byte. A packed row
+// has `row_bytes` bytes, and the place of a byte moves a block of eight entries within its row.
+#[derive(Drop)]
+pub(crate) struct Table<'a, F> {
+    pub(crate) entries: &'a [F],
+    pub(crate) width: usize,
+    pub(crate) row_bytes: usize,
+    pub(crate) ghost whole: { (length entries.now ≡ 256 * width) × (width < 2 ^ 17) },
+    pub(crate) ghost bytes: { 1 ≤ row_bytes },
+    pub(crate) ghost blocks: { (8 ≤ width) × (8 * (width / 8) ≡ width) },
+    pub(crate) ghost shifts: { (q b : ℕ) → q < width / 8 → b < row_bytes → bit_xor q b < width / 8 },
+}
+
+// Adds eight entries to the eight sums.
+fn add_block<F: Field>(sums: &mut [F; 8], entries: &[F])
+    requires { length entries.now ≡ 8 }
+    ensures { (k : ℕ) → k < 8 → slice_index_or sums.new k F.Field.ops.zero ≡ F.Field.ops.sum (slice_index_or sums.old k F.Field.ops.zero) (slice_index_or entries.now k F.Field.ops.zero) }
 {
-    for k in 0..8usize {
-        sums[k] = sums[k].sum(table[at + k]);
+    for (k, sum) in sums.iter_mut().enumerate() {
+        *sum = sum.sum(entries[k]);
     }
 }
 
-// Where the block begins that a byte b of the row takes for block q of the outputs: block q xor b of
-// the table row of its value.
-fn block_start(value: u8, n: usize, q: usize, b: usize) -> usize
-    requires { (8 * bit_xor q b + 8 ≤ n) × (n < 2 ^ 32) }
-    ensures { result ≡ value * n + 8 * bit_xor q b }
-{
-    value as usize * n + 8 * (q ^ b)
-}
-
-// The sums of block q of the outputs, from a table of rows of n entries.
-fn sum_block<F: Field>(sums: &mut [F], table: &[F], row: &[u8], n: usize, q: usize)
-    requires eight { length sums.old ≡ 8 }
-    requires zeros { (k : ℕ) → k < 8 → slice_index_or sums.old k F.Field.ops.zero ≡ F.Field.ops.zero }
-    requires table { (length table.now ≡ 256 * n) × (n < 2 ^ 32) }
-    requires within { (b : ℕ) → b < length row.now → 8 * bit_xor q b + 8 ≤ n }
-    ensures { (k : ℕ) → k < 8 → slice_index_or sums.new k F.Field.ops.zero ≡ entries_sum F.Field.ops n table.now row.now (8 * q + k) }
-{
-    for b in 0..row.len() {
-        let at = block_start(row[b], n, q, b);
-        add_block(sums, table, at);
+impl<'a, F: Field> Table<'a, F> {
+    // The table of a domain of these dimensions.
+    pub(crate) fn new(dimensions: Dimensions, entries: &'a [F]) -> Table<'a, F>
+        requires { length entries.now ≡ 256 * transmitted dimensions.log_size dimensions.log_extended }
+        ensures entries { result.entries.now ≡ entries.now }
+        ensures width { result.width ≡ transmitted dimensions.log_size dimensions.log_extended }
+        ensures bytes { result.row_bytes ≡ bytes_of_row dimensions.log_size }
+    {
+        Table {
+            entries,
+            width: dimensions.num_transmitted(),
+            row_bytes: dimensions.row_bytes(),
+        }
     }
-}
 
-// Writes block q of the outputs, with eight sums lent that are zero; the blocks before it stay.
-fn write_block<F: Field>(sums: &mut [F], table: &[F], row: &[u8], out: &mut [F], q: usize)
-    requires eight { length sums.old ≡ 8 }
-    requires zeros { (k : ℕ) → k < 8 → slice_index_or sums.old k F.Field.ops.zero ≡ F.Field.ops.zero }
-    requires block { 8 * q + 8 ≤ length out.old }
-    requires table { (length table.now ≡ 256 * length out.old) × (length out.old < 2 ^ 32) }
-    requires within { (b : ℕ) → b < length row.now → 8 * bit_xor q b + 8 ≤ length out.old }
-    ensures sums { (k : ℕ) → k < 8 → slice_index_or out.new (8 * q + k) F.Field.ops.zero ≡ entries_sum F.Field.ops (length out.old) table.now row.now (8 * q + k) }
-    ensures kept { (p : ℕ) → p < 8 * q → slice_index_or out.new p F.Field.ops.zero ≡ slice_index_or out.old p F.Field.ops.zero }
-{
-    let n = out.len();
-    sum_block(sums, table, row, n, q);
-    out[8 * q..8 * q + 8].copy_from_slice(sums);
-}
+    // Block q of the table row of a byte.
+    fn block(&self, byte: u8, q: usize) -> &'a [F]
+        requires { q < self.now.width / 8 }
+        ensures value { result.now ≡ take 8 (drop (byte * self.now.width + 8 * q) self.now.entries.now) }
+        ensures within { byte * self.now.width + 8 * q + 8 ≤ length self.now.entries.now }
+    {
+        let at = byte as usize * self.width + 8 * q;
+        &self.entries[at..at + 8]
+    }
 
-// Writes block q of the outputs; the blocks before it stay.
-fn extend_block<F: Field>(table: &[F], row: &[u8], out: &mut [F], q: usize)
-    requires block { 8 * q + 8 ≤ length out.old }
-    requires table { (length table.now ≡ 256 * length out.old) × (length out.old < 2 ^ 32) }
-    requires within { (b : ℕ) → b < length row.now → 8 * bit_xor q b + 8 ≤ length out.old }
-    ensures sums { (k : ℕ) → k < 8 → slice_index_or out.new (8 * q + k) F.Field.ops.zero ≡ entries_sum F.Field.ops (length out.old) table.now row.now (8 * q + k) }
-    ensures kept { (p : ℕ) → p < 8 * q → slice_index_or out.new p F.Field.ops.zero ≡ slice_index_or out.old p F.Field.ops.zero }
-{
-    let mut sums = [F::zero(); 8];
-    write_block(&mut sums, table, row, out, q);
-}
+    // The sums of block q of a row's outputs: the byte at place b adds block q xor b of its table row.
+    fn sum_block(&self, row: &[u8], q: usize) -> [F; 8]
+        requires row { length row.now ≡ self.now.row_bytes }
+        requires block { q < self.now.width / 8 }
+        ensures { (k : ℕ) → k < 8 → slice_index_or result k F.Field.ops.zero ≡ entries_sum F.Field.ops self.now.width self.now.entries.now row.now (8 * q + k) }
+    {
+        let mut sums = [F::zero(); 8];
+        for (b, byte) in row.iter().enumerate() {
+            add_block(&mut sums, self.block(*byte, q ^ b));
+        }
+        sums
+    }
 
-// Extends one packed row from a table of the right length. From the built table the outputs are the
-// values of the row's polynomial at the transmitted points.
-pub(crate) fn extend_row<F: TowerLevel>(
-    dimensions: Dimensions,
-    table: &[F],
-    row: &[u8],
-    out: &mut [F],
-)
-    requires row { length row.now ≡ bytes_of_row dimensions.log_size }
-    requires out { length out.old ≡ transmitted dimensions.log_size dimensions.log_extended }
-    requires table { length table.now ≡ 256 * transmitted dimensions.log_size dimensions.log_extended }
-    ensures sums { SumsEntries F.Field.ops (transmitted dimensions.log_size dimensions.log_extended) table.now row.now out.new }
-    ensures values { Built F.Field.ops F.TowerLevel.level dimensions.log_size dimensions.log_extended table.now → Extends F.Field.ops F.TowerLevel.level dimensions.log_size dimensions.log_extended row.now out.new }
-{
-    for q in 0..out.len() / 8 {
-        extend_block(table, row, out, q);
+    // Writes block q of a row's outputs; the blocks before it stay.
+    fn write_block(&self, row: &[u8], out: &mut [F], q: usize)
+        requires row { length row.now ≡ self.now.row_bytes }
+        requires block { q < self.now.width / 8 }
+        requires out { length out.old ≡ self.now.width }
+        ensures sums { (k : ℕ) → k < 8 → slice_index_or out.new (8 * q + k) F.Field.ops.zero ≡ entries_sum F.Field.ops self.now.width self.now.entries.now row.now (8 * q + k) }
+        ensures kept { (p : ℕ) → p < 8 * q → slice_index_or out.new p F.Field.ops.zero ≡ slice_index_or out.old p F.Field.ops.zero }
+    {
+        let sums = self.sum_block(row, q);
+        out[8 * q..8 * q + 8].copy_from_slice(&sums);
+    }
+
+    // Extends one packed row: output i is the sum over bytes b of the table's entry (byte b, i xor 8b).
+    pub(crate) fn extend_row(&self, row: &[u8], out: &mut [F])
+        requires row { length row.now ≡ self.now.row_bytes }
+        requires out { length out.old ≡ self.now.width }
+        ensures { SumsEntries F.Field.ops self.now.width self.now.entries.now row.now out.new }
+    {
+        for q in 0..self.width / 8 {
+            self.write_block(row, out, q);
+        }
     }
 }

@@ -1,10 +1,11 @@
 // Why an extension table cannot be built, or rows not be extended. `specs/Refusals.antt` has each
 // case's number and values.
-ghost use Rattle.std.specs.Prelude.{◌≡◌, take};
-ghost use Rattle.skip_lde.specs.Refusals.{number_of, values_of};
+ghost use Rattle.std.specs.Prelude.{◌≡◌};
+ghost use Rattle.skip_lde.specs.Refusals as table;
 ghost use Rattle.skip_lde.specs.declared.fault.CompressedLdeError.TheVariants.{Domain};
 
-use skip_dimensions::fault::{SkipDomainError, Values};
+use skip_dimensions::fault::SkipDomainError;
+use skip_dimensions::refusal::{Refusal, Values};
 
 // Reasons an extension is not built, or rows are not extended.
 #[derive(Clone, Copy, PartialEq, Eq, Debug)]
@@ -27,11 +28,13 @@ pub enum CompressedLdeError {
     },
 }
 
-impl CompressedLdeError {
-    // The number of this cause in the table of refusals; a fault of the domain keeps its own.
-    pub fn number(&self) -> u8
-        ensures { result ≡ number_of self.now }
-    {
+impl Refusal for CompressedLdeError {
+    ghost number_of = { table.number_of };
+
+    ghost values_of = { table.values_of };
+
+    // A fault of the domain keeps its own number and values.
+    fn number(&self) -> u8 {
         match self {
             CompressedLdeError::Domain(fault) => fault.number(),
             CompressedLdeError::NotWholeRows { .. } => 9,
@@ -40,28 +43,24 @@ impl CompressedLdeError {
         }
     }
 
-    // The values that it returns, in the table's order; a fault of the domain keeps its own.
-    pub fn values(&self) -> Values
-        ensures { take result.count result.items ≡ values_of self.now }
-    {
-        match self {
+    fn values(&self) -> Values {
+        match *self {
             CompressedLdeError::Domain(fault) => fault.values(),
-            CompressedLdeError::NotWholeRows { len } => Values {
-                items: [*len, 0, 0],
-                count: 1,
-            },
-            CompressedLdeError::TooManyRows { rows } => Values {
-                items: [*rows, 0, 0],
-                count: 1,
-            },
+            CompressedLdeError::NotWholeRows { len } => Values::One([len]),
+            CompressedLdeError::TooManyRows { rows } => Values::One([rows]),
             CompressedLdeError::BufferLenMismatch {
                 place,
                 expected,
                 actual,
-            } => Values {
-                items: [*place as usize, *expected, *actual],
-                count: 3,
-            },
+            } => Values::Three([place as usize, expected, actual]),
+        }
+    }
+
+    fn buffer_len_mismatch(place: u8, expected: usize, actual: usize) -> CompressedLdeError {
+        CompressedLdeError::BufferLenMismatch {
+            place,
+            expected,
+            actual,
         }
     }
 }

@@ -1,17 +1,17 @@
 // Extension of packed rows of bits from the skipped subspace to the transmitted points.
-ghost use Rattle.std.specs.Prelude.{◌≡◌, ◌+◌, ◌-◌, ◌*◌, ◌/◌, ◌^◌, min, length, IfOk, MatchResult, OnOk};
+ghost use Rattle.std.specs.Prelude.{◌≡◌, ◌+◌, ◌-◌, ◌*◌, ◌/◌, ◌^◌, ◌≤◌, length, IfOk, MatchResult, OnOk};
 ghost use Rattle.skip_lde.specs.Rows.{transmitted, bytes_of_row};
 ghost use Rattle.skip_lde.specs.Tables.{Built, SumsEntries, SumsEntriesOfRows, Extends, ExtendsRows};
 ghost use Rattle.skip_lde.specs.Refusals.{reported, construction, of_one_row, of_rows};
 
-use crate::blocks::extend_row;
+use crate::blocks::Table;
 use crate::fault::CompressedLdeError;
-use crate::lengths::{check_len, check_one_row, check_rows, dimensions_over, transmitted_len};
-use crate::rows::extend_rows;
+use crate::lengths::{check_buffers, count_rows};
 use crate::table::fill_table;
 use fields::field::Field;
 use fields::tower::TowerLevel;
 use skip_dimensions::dimensions::Dimensions;
+use skip_dimensions::refusal::check_length;
 use std::marker::PhantomData;
 
 // The numbers of an extension over the field F. Its table stays with the caller.
@@ -31,12 +31,12 @@ impl<F: TowerLevel> CompressedLde<F> {
         log_extended: usize,
         table: &mut [F],
     ) -> Result<CompressedLde<F>, CompressedLdeError>
-        ensures refused { reported result ≡ construction (min F.TowerLevel.level.log_bits 64) log_size log_extended (length table.old) }
+        ensures refused { reported result ≡ construction F.TowerLevel.level.log_bits log_size log_extended (length table.old) }
         ensures dimensions { IfOk result (λ l. (l.dimensions.log_size ≡ log_size) × (l.dimensions.log_extended ≡ log_extended)) }
         ensures table { MatchResult result (λ _. Built F.Field.ops F.TowerLevel.level log_size log_extended table.new) (λ _. table.new ≡ table.old) }
     {
-        let dimensions = dimensions_over::<F>(log_size, log_extended)?;
-        check_len(2, 256 * transmitted_len(dimensions), table.len())?;
+        let dimensions = Dimensions::over::<F>(log_size, log_extended)?;
+        check_length::<CompressedLdeError>(2, dimensions.table_len(), table.len())?;
         fill_table(dimensions, table);
         Ok(CompressedLde {
             dimensions,
@@ -50,7 +50,7 @@ impl<F: TowerLevel> CompressedLde<F> {
         dimensions: Dimensions,
         table: &mut [F],
     ) -> Result<CompressedLde<F>, CompressedLdeError>
-        ensures refused { reported result ≡ construction (min F.TowerLevel.level.log_bits 64) dimensions.log_size dimensions.log_extended (length table.old) }
+        ensures refused { reported result ≡ construction F.TowerLevel.level.log_bits dimensions.log_size dimensions.log_extended (length table.old) }
         ensures dimensions { IfOk result (λ l. (l.dimensions.log_size ≡ dimensions.log_size) × (l.dimensions.log_extended ≡ dimensions.log_extended)) }
         ensures table { MatchResult result (λ _. Built F.Field.ops F.TowerLevel.level dimensions.log_size dimensions.log_extended table.new) (λ _. table.new ≡ table.old) }
     {
@@ -66,7 +66,8 @@ impl<F: TowerLevel> CompressedLde<F> {
 
     // Number of bytes of one packed row.
     pub fn num_chunks(&self) -> usize
-        ensures { result ≡ bytes_of_row self.now.dimensions.log_size }
+        ensures value { result ≡ bytes_of_row self.now.dimensions.log_size }
+        ensures some { 1 ≤ result }
     {
         self.dimensions.row_bytes()
     }
@@ -75,7 +76,7 @@ impl<F: TowerLevel> CompressedLde<F> {
     pub fn table_len(&self) -> usize
         ensures { result ≡ 256 * transmitted self.now.dimensions.log_size self.now.dimensions.log_extended }
     {
-        256 * transmitted_len(self.dimensions)
+        self.dimensions.table_len()
     }
 
     // Extends one packed row into one output for each transmitted point: output i is the sum over
@@ -86,8 +87,12 @@ impl<F: TowerLevel> CompressedLde<F> {
         ensures sums { MatchResult result (λ _. SumsEntries F.Field.ops (transmitted self.now.dimensions.log_size self.now.dimensions.log_extended) table.now row.now out.new) (λ _. out.new ≡ out.old) }
         ensures values { OnOk result (Built F.Field.ops F.TowerLevel.level self.now.dimensions.log_size self.now.dimensions.log_extended table.now → Extends F.Field.ops F.TowerLevel.level self.now.dimensions.log_size self.now.dimensions.log_extended row.now out.new) }
     {
-        check_one_row(self.dimensions, table.len(), row.len(), out.len())?;
-        extend_row(self.dimensions, table, row, out);
+        count_rows(self.dimensions, row.len())?;
+        if row.len() != self.num_chunks() {
+            return Err(CompressedLdeError::NotWholeRows { len: row.len() });
+        }
+        check_buffers(self.dimensions, 1, table.len(), out.len())?;
+        Table::new(self.dimensions, table).extend_row(row, out);
         Ok(())
     }
 
@@ -102,8 +107,12 @@ impl<F: TowerLevel> CompressedLde<F> {
         ensures sums { MatchResult result (λ _. SumsEntriesOfRows F.Field.ops (transmitted self.now.dimensions.log_size self.now.dimensions.log_extended) (bytes_of_row self.now.dimensions.log_size) table.now rows.now (length rows.now / bytes_of_row self.now.dimensions.log_size) out.new) (λ _. out.new ≡ out.old) }
         ensures values { OnOk result (Built F.Field.ops F.TowerLevel.level self.now.dimensions.log_size self.now.dimensions.log_extended table.now → ExtendsRows F.Field.ops F.TowerLevel.level self.now.dimensions.log_size self.now.dimensions.log_extended rows.now (length rows.now / bytes_of_row self.now.dimensions.log_size) out.new) }
     {
-        check_rows(self.dimensions, table.len(), rows.len(), out.len())?;
-        extend_rows(self.dimensions, table, rows, out);
+        let count = count_rows(self.dimensions, rows.len())?;
+        if rows.len() % self.num_chunks() != 0 {
+            return Err(CompressedLdeError::NotWholeRows { len: rows.len() });
+        }
+        check_buffers(self.dimensions, count, table.len(), out.len())?;
+        Table::new(self.dimensions, table).extend_rows(rows, out);
         Ok(())
     }
 }

@@ -1,64 +1,47 @@
 // Points made from a few elements of the Cantor basis, computed once.
-ghost use Rattle.std.specs.Prelude.{◌≡◌, ℕ, ◌^◌, ◌<◌, ◌≤◌, length, if◌then◌else◌, slice_index_or};
+ghost use Rattle.std.specs.Prelude.{◌≡◌, ℕ, ◌^◌, ◌<◌, ◌≤◌, length, slice_index_or};
 ghost use Rattle.algebra.specs.Points.{basis_element_or_zero, point as cantor_point};
-ghost use Rattle.algebra.specs.Sums.{bit_set};
 
+use algebra::basis::basis_or_zero;
 use fields::field::Field;
 use fields::tower::TowerLevel;
+use std::array;
 
-// Element r of the basis, or zero where the basis has none.
-fn basis_or_zero<F: TowerLevel>(r: usize) -> F
-    ensures { result ≡ basis_element_or_zero F.Field.ops F.TowerLevel.level r }
-{
-    match F::cantor_basis(r) {
-        Some(v) => v,
-        None => F::zero(),
-    }
+// The first elements of the Cantor basis, at most sixteen.
+#[derive(Drop)]
+pub(crate) struct Basis<'a, F: TowerLevel> {
+    pub(crate) elements: &'a [F],
+    pub(crate) ghost few: { length elements.now ≤ 16 },
+    pub(crate) ghost first: { (r : ℕ) → r < length elements.now → slice_index_or elements.now r F.Field.ops.zero ≡ basis_element_or_zero F.Field.ops F.TowerLevel.level r },
 }
 
-// The first elements of the basis.
-pub(crate) fn fill_basis<F: TowerLevel>(basis: &mut [F])
-    ensures { (r : ℕ) → r < length basis.old → slice_index_or basis.new r F.Field.ops.zero ≡ basis_element_or_zero F.Field.ops F.TowerLevel.level r }
+// As many elements of the basis as a domain may have dimensions.
+pub(crate) fn basis_elements<F: TowerLevel>() -> [F; 16]
+    ensures { (r : ℕ) → r < 16 → slice_index_or result r F.Field.ops.zero ≡ basis_element_or_zero F.Field.ops F.TowerLevel.level r }
 {
-    for r in 0..basis.len() {
-        basis[r] = basis_or_zero::<F>(r);
-    }
+    array::from_fn(|r| basis_or_zero::<F>(r))
 }
 
-// Adds an element where bit r of the index is set.
-fn with_bit<F: Field>(sum: F, index: usize, r: usize, element: F) -> F
-    requires { r < 64 }
-    ensures { result ≡ F.Field.ops.sum sum (if bit_set index r then element else F.Field.ops.zero) }
-{
-    if (index >> r) % 2 == 1 {
-        sum.sum(element)
-    } else {
-        sum.sum(F::zero())
+impl<F: TowerLevel> Basis<'_, F> {
+    // The point of an index of no more bits than there are elements: the sum of those at its set bits.
+    pub(crate) fn point(&self, index: usize) -> F
+        requires { index < 2 ^ length self.now.elements.now }
+        ensures { result ≡ cantor_point F.Field.ops F.TowerLevel.level index }
+    {
+        let mut point = F::zero();
+        for (r, element) in self.elements.iter().enumerate() {
+            if index >> r & 1 == 1 {
+                point = point.sum(*element);
+            }
+        }
+        point
     }
-}
 
-// The point of an index of so many bits: the sum of the basis elements at its set bits.
-pub(crate) fn point_of<F: TowerLevel>(basis: &[F], bits: usize, index: usize) -> F
-    requires bits { (bits ≤ length basis.now) × (bits ≤ 16) }
-    requires basis { (r : ℕ) → r < length basis.now → slice_index_or basis.now r F.Field.ops.zero ≡ basis_element_or_zero F.Field.ops F.TowerLevel.level r }
-    requires index { index < 2 ^ bits }
-    ensures { result ≡ cantor_point F.Field.ops F.TowerLevel.level index }
-{
-    let mut point = F::zero();
-    for r in 0..bits {
-        point = with_bit(point, index, r, basis[r]);
-    }
-    point
-}
-
-// The points of the indices 0 to 7.
-pub(crate) fn fill_points<F: TowerLevel>(basis: &[F], points: &mut [F])
-    requires bits { 3 ≤ length basis.now }
-    requires basis { (r : ℕ) → r < length basis.now → slice_index_or basis.now r F.Field.ops.zero ≡ basis_element_or_zero F.Field.ops F.TowerLevel.level r }
-    requires eight { length points.old ≡ 8 }
-    ensures { (j : ℕ) → j < 8 → slice_index_or points.new j F.Field.ops.zero ≡ cantor_point F.Field.ops F.TowerLevel.level j }
-{
-    for j in 0..8usize {
-        points[j] = point_of(basis, 3, j);
+    // The points of the indices 0 to 7.
+    pub(crate) fn first_points(&self) -> [F; 8]
+        requires { 3 ≤ length self.now.elements.now }
+        ensures { (j : ℕ) → j < 8 → slice_index_or result j F.Field.ops.zero ≡ cantor_point F.Field.ops F.TowerLevel.level j }
+    {
+        array::from_fn(|j| self.point(j))
     }
 }

@@ -1,7 +1,5 @@
-use Rattle.std.proofs.Common.{◌≡◌, ℕ, ◌<◌, ◌≤◌, get_or}
+use Rattle.std.proofs.Common.{◌≡◌, ℕ, ◌<◌, get_or}
 use Rattle.skip_lde.proofs.table.clear_row.Given as goal
 
-abbrev pub invariant-loop-i : goal.invariant-loop-i
-invariant-loop-i g l =
-    ((i : ℕ) → i < l.i → get_or l.table i g.F.Field.ops.zero ≡ g.F.Field.ops.zero)
-    × ((p : ℕ) → l.i ≤ p → get_or l.table p g.F.Field.ops.zero ≡ get_or l.initial.table p g.F.Field.ops.zero)
+abbrev pub invariant-loop-entry : goal.invariant-loop-entry
+invariant-loop-entry g l = (i : ℕ) → i < l.entry-index → get_or l.entry-items i g.F.Field.ops.zero ≡ g.F.Field.ops.zero

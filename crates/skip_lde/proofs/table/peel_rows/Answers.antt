@@ -1,12 +1,11 @@
 use Rattle.std.proofs.Common.{◌≡◌, ℕ, ◌+◌, ◌-◌, ◌*◌, ◌%◌, ◌^◌, ◌<◌, ◌≤◌, get_or, sym, refl, ap, ◌∙◌, arith}
-use lib.Bits.{bit_and}
 use lib.Count.{count_trailing_zeros}
-use Rattle.std.proofs.lemmas.Nat.{one_shl, pow_pos}
+use Rattle.std.proofs.lemmas.Nat.{one_shl}
 use Rattle.algebra.specs.Sums.{bit_sum}
 use Rattle.algebra.proofs.BitSums.{bit_sum_zero}
-use Rattle.skip_lde.proofs.LowestBits.{Lowest, lowest}
-use Rattle.skip_lde.proofs.PeeledRows.{peeled, unpeeled}
+use Rattle.skip_lde.proofs.PeeledRows.{lowest, one_bit, peeled}
 use Rattle.skip_lde.proofs.table.peel_rows.Goals as goal
+use Rattle.skip_lde.proofs.table.peel_rows.Goals.{then-bit-v, else-bit-v}
 
 pub loop-v-init : goal.loop-v-init
 loop-v-init g c =
@@ -21,26 +20,27 @@ loop-v-init g c =
       λ p h. refl,
     )
 
--- the lowest set bit of v, and the row of that bit, as the program shifts it
-low_bit : (v : ℕ) → 1 ≤ v → v < 256 → Lowest 8 v (bit_and v (v - 1)) (count_trailing_zeros 64 v) × (1 * 2 ^ count_trailing_zeros 64 v % 2 ^ 64 ≡ 2 ^ count_trailing_zeros 64 v)
-low_bit v h l =
-    let w = lowest 8 64 v (omega arith) (omega arith) (omega arith) in
-    (w, one_shl (count_trailing_zeros 64 v) 64 (omega (arith, w.0)))
-
-pub add_rows-requires : goal.add_rows-requires
-add_rows-requires g c =
-    let w = low_bit c.loop-v.v c.loop-v.auto.v c.loop-v-test.true in
-    let e = w.0.2 in
-    let f = w.1 in
-    let p = pow_pos (count_trailing_zeros 64 c.loop-v.v) in
-    record { rows = (c.loop-v-test.true, omega arith, omega arith); table = (omega arith, c.requires.table.1) }
-
 pub loop-v-preserved : goal.loop-v-preserved
 loop-v-preserved g c =
+    let z = g.F.Field.ops.zero in
     let v = c.loop-v.v in
-    let w = low_bit v c.loop-v.auto.v c.loop-v-test.true in
+    let n = c.args.n in
+    let r = count_trailing_zeros 64 v in
+    let b = 1 * 2 ^ r % 2 ^ 64 in
+    let low = lowest v (omega arith) c.loop-v-test.true in
+    let e : b ≡ 2 ^ r = one_shl r 64 (omega (arith, low.0)) in
     let L = g.met.F.Field.laws in
-    let a = c.add_rows.ensures in (
-      peeled L c.args.table.now c.loop-v.table c.add_rows.new.table c.args.n v (bit_and v (v - 1)) (1 * 2 ^ count_trailing_zeros 64 v % 2 ^ 64) (count_trailing_zeros 64 v) w.0 w.1 c.loop-v.invariant.0 c.loop-v.invariant.1 a.sums a.before a.after,
-      unpeeled L c.args.table.now c.loop-v.table c.add_rows.new.table c.args.n v (bit_and v (v - 1)) (1 * 2 ^ count_trailing_zeros 64 v % 2 ^ 64) (count_trailing_zeros 64 v) w.0 w.1 c.loop-v.invariant.0 c.loop-v.invariant.1 a.sums a.before a.after,
-    )
+    let inv = c.loop-v.invariant in
+    elim c.if-bit-v.branch [
+      | then-bit-v w ↦
+          let a = w.add_rows.ensures in (
+            λ u i h k. ap (λ xs. get_or xs (u * n + i) z) w.table-is ∙ peeled L c.args.table.now c.loop-v.table n v r low inv.0 inv.1 w.add_rows.new.table b e w.if-bit-v.true a.sums a.before u i h k,
+            λ p h. ap (λ xs. get_or xs p z) w.table-is ∙ a.after p (omega arith) ∙ inv.1 p (omega arith),
+          )
+      | else-bit-v w ↦
+          let least = low.2 in
+          let s : v ≡ 2 ^ r = omega (arith, w.if-bit-v.false) in (
+            λ u i h k. ap (λ xs. get_or xs (u * n + i) z) w.table-is ∙ one_bit L c.args.table.now c.loop-v.table n v r low inv.0 inv.1 s u i h k,
+            λ p h. ap (λ xs. get_or xs p z) w.table-is ∙ inv.1 p (omega arith),
+          )
+    ]
