@@ -100,6 +100,7 @@ impl FieldName {
     }
 }
 
+// The words after an operation that takes none, one or two; another number of them is wrong.
 fn no_operand(operands: &[u8]) -> Result<(), Reason>
     ensures { result ≡ none_of (words operands.now) }
 {
@@ -150,6 +151,7 @@ fn two_elements(first: FieldName, second: FieldName, operands: &[u8]) -> Result<
     Ok((element(first, x)?, element(second, y)?))
 }
 
+// A place in a list: any decimal.
 fn index(operands: &[u8]) -> Result<usize, Reason>
     ensures { result ≡ index_of (words operands.now) }
 {
