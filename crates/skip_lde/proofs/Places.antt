@@ -1,5 +1,5 @@
 -- Places in the table: the block of a byte, and what stays within a row of the table.
-use Rattle.std.proofs.Common.{◌≡◌, ℕ, ◌+◌, ◌*◌, ◌%◌, ◌^◌, ◌<◌, ◌≤◌, ◌≢◌, sym, ap, ◌∙◌, ap₂, arith}
+use Rattle.std.proofs.Common.{◌≡◌, ℕ, ◌+◌, ◌*◌, ◌%◌, ◌^◌, ◌<◌, ◌≢◌, sym, ap, ◌∙◌, ap₂, arith}
 use lib.Bits.{bit_xor, xor_block, xor_zero_r}
 use Rattle.std.proofs.lemmas.Nat.{mul-add-lt, mod-mul-add, pow_below, one_shl}
 
@@ -17,10 +17,6 @@ block_place v n q b k l h =
     let m : v % 256 ≡ v = omega arith in
     let a : v * n + 8 * bit_xor q b + k ≡ v * n + (8 * bit_xor q b + k) = omega arith in
     a ∙ sym (ap₂ (λ x y. x * n + y) m e)
-
--- a block within a row of the table is within the table
-pub block_within : (v n x : ℕ) → v < 256 → x + 8 ≤ n → v * n + x + 8 ≤ 256 * n
-block_within v n x l h = let m = mul-add-lt v n (x + 7) 256 l (omega arith) in omega arith
 
 -- two places of different columns differ
 pub columns_apart : (u v n k i : ℕ) → k < n → i < n → k ≢ i → u * n + k ≢ v * n + i

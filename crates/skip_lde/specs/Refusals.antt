@@ -1,7 +1,7 @@
 -- The causes for which an extension is not built and rows are not extended, as the table of refusals lists them.
 -- A refusal is reported by its number and its values; a fault of the domain keeps its own. The first cause that applies
 -- is the one reported.
-use Rattle.std.specs.Prelude.{ℕ, ◌*◌, ◌/◌, ◌%◌, ◌^◌, cond, List, [], ◌∷◌, Some, None, Ok, Err, Option, Result, ◌==◌, nat_lt}
+use Rattle.std.specs.Prelude.{ℕ, ◌*◌, ◌/◌, ◌%◌, ◌^◌, cond, List, [], ◌∷◌, Some, None, Option, Result, ◌==◌, nat_lt}
 use Rattle.skip_dimensions.specs.Refusals as domain
 use Rattle.skip_dimensions.specs.Refusals.{Report, wrong_length, first_of}
 use Rattle.skip_lde.specs.Rows.{transmitted, bytes_of_row}

@@ -59,7 +59,7 @@ impl<F: TowerLevel> CompressedLde<F> {
 
     // Number of transmitted values that one extended row has.
     pub fn num_transmitted(&self) -> usize
-        ensures { result ≡ transmitted self.now.dimensions.log_size self.now.dimensions.log_extended }
+        ensures { let d = self.now.dimensions in result ≡ transmitted d.log_size d.log_extended }
     {
         self.dimensions.num_transmitted()
     }
@@ -74,7 +74,7 @@ impl<F: TowerLevel> CompressedLde<F> {
 
     // Number of elements of the table: one row of transmitted values for each value of a byte.
     pub fn table_len(&self) -> usize
-        ensures { result ≡ 256 * transmitted self.now.dimensions.log_size self.now.dimensions.log_extended }
+        ensures { let d = self.now.dimensions in result ≡ 256 * transmitted d.log_size d.log_extended }
     {
         self.dimensions.table_len()
     }
@@ -83,9 +83,9 @@ impl<F: TowerLevel> CompressedLde<F> {
     // bytes b of the table's entry (byte b, i xor 8b). From the built table it is the value there of
     // the polynomial that has the row's bits on the subspace. A refusal leaves the outputs.
     pub fn extend(&self, table: &[F], row: &[u8], out: &mut [F]) -> Result<(), CompressedLdeError>
-        ensures refused { reported result ≡ of_one_row self.now.dimensions.log_size self.now.dimensions.log_extended (length table.now) (length row.now) (length out.old) }
-        ensures sums { MatchResult result (λ _. SumsEntries F.Field.ops (transmitted self.now.dimensions.log_size self.now.dimensions.log_extended) table.now row.now out.new) (λ _. out.new ≡ out.old) }
-        ensures values { OnOk result (Built F.Field.ops F.TowerLevel.level self.now.dimensions.log_size self.now.dimensions.log_extended table.now → Extends F.Field.ops F.TowerLevel.level self.now.dimensions.log_size self.now.dimensions.log_extended row.now out.new) }
+        ensures refused { let d = self.now.dimensions in reported result ≡ of_one_row d.log_size d.log_extended (length table.now) (length row.now) (length out.old) }
+        ensures sums { let d = self.now.dimensions in MatchResult result (λ _. SumsEntries F.Field.ops (transmitted d.log_size d.log_extended) table.now row.now out.new) (λ _. out.new ≡ out.old) }
+        ensures values { let d = self.now.dimensions in OnOk result (Built F.Field.ops F.TowerLevel.level d.log_size d.log_extended table.now → Extends F.Field.ops F.TowerLevel.level d.log_size d.log_extended row.now out.new) }
     {
         count_rows(self.dimensions, row.len())?;
         if row.len() != self.num_chunks() {
@@ -103,9 +103,9 @@ impl<F: TowerLevel> CompressedLde<F> {
         rows: &[u8],
         out: &mut [F],
     ) -> Result<(), CompressedLdeError>
-        ensures refused { reported result ≡ of_rows self.now.dimensions.log_size self.now.dimensions.log_extended (length table.now) (length rows.now) (length out.old) }
-        ensures sums { MatchResult result (λ _. SumsEntriesOfRows F.Field.ops (transmitted self.now.dimensions.log_size self.now.dimensions.log_extended) (bytes_of_row self.now.dimensions.log_size) table.now rows.now (length rows.now / bytes_of_row self.now.dimensions.log_size) out.new) (λ _. out.new ≡ out.old) }
-        ensures values { OnOk result (Built F.Field.ops F.TowerLevel.level self.now.dimensions.log_size self.now.dimensions.log_extended table.now → ExtendsRows F.Field.ops F.TowerLevel.level self.now.dimensions.log_size self.now.dimensions.log_extended rows.now (length rows.now / bytes_of_row self.now.dimensions.log_size) out.new) }
+        ensures refused { let d = self.now.dimensions in reported result ≡ of_rows d.log_size d.log_extended (length table.now) (length rows.now) (length out.old) }
+        ensures sums { let d = self.now.dimensions in MatchResult result (λ _. SumsEntriesOfRows F.Field.ops (transmitted d.log_size d.log_extended) (bytes_of_row d.log_size) table.now rows.now (length rows.now / bytes_of_row d.log_size) out.new) (λ _. out.new ≡ out.old) }
+        ensures values { let d = self.now.dimensions in OnOk result (Built F.Field.ops F.TowerLevel.level d.log_size d.log_extended table.now → ExtendsRows F.Field.ops F.TowerLevel.level d.log_size d.log_extended rows.now (length rows.now / bytes_of_row d.log_size) out.new) }
     {
         let count = count_rows(self.dimensions, rows.len())?;
         if rows.len() % self.num_chunks() != 0 {

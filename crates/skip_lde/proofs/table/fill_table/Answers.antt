@@ -1,4 +1,4 @@
-use Rattle.std.proofs.Common.{◌≡◌, ℕ, ◌+◌, ◌*◌, ◌^◌, ◌≤◌, length, get_or, sym, ap, ◌∙◌, arith, pow_pos, length-take}
+use Rattle.std.proofs.Common.{ℕ, ◌+◌, ◌*◌, ◌^◌, ◌≤◌, length, get_or, sym, ap, ◌∙◌, arith, pow_pos, length-take}
 use prog.Memory.{size}
 use denote.Memory.{lone}
 use Rattle.std.proofs.lemmas.Nat.{mul-le}

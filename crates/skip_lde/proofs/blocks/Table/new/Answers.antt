@@ -1,5 +1,4 @@
-use Rattle.std.proofs.Common.{◌≡◌, ℕ, ◌+◌, ◌-◌, ◌*◌, ◌/◌, ◌^◌, ◌<◌, ◌≤◌, arith}
-use lib.Bits.{bit_xor}
+use Rattle.std.proofs.Common.{arith}
 use Rattle.skip_lde.proofs.Sizes.{blocks_of, block_shifted}
 use Rattle.skip_lde.proofs.blocks.Table.new.Goals as goal
 

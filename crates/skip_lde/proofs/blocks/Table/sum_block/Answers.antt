@@ -1,7 +1,6 @@
-use Rattle.std.proofs.Common.{ℕ, ◌+◌, ◌*◌, ◌%◌, ◌<◌, get_or, take, drop, sym, ap, ◌∙◌, ap₂, arith}
+use Rattle.std.proofs.Common.{ℕ, ◌+◌, ◌*◌, ◌%◌, ◌<◌, get_or, drop, sym, ap, ◌∙◌, ap₂, arith}
 use lib.Bits.{bit_xor}
 use Rattle.std.proofs.lemmas.List.{get_or-take, get_or-drop}
-use Rattle.algebra.specs.Sums.{sum_below}
 use Rattle.algebra.proofs.Sums.{sum_more}
 use Rattle.skip_lde.proofs.Places.{block_place}
 use Rattle.skip_lde.proofs.blocks.Table.sum_block.Goals as goal

@@ -1,4 +1,4 @@
-use Rattle.std.proofs.Common.{◌≡◌, ◌≤◌, length, ◌∙◌, ap₂, arith}
+use Rattle.std.proofs.Common.{◌∙◌, ap₂, arith}
 use Rattle.skip_lde.specs.Tables.{entries_sum}
 use Rattle.skip_lde.proofs.Extensions.{entries_extend}
 use Rattle.skip_lde.proofs.lde.CompressedLde.extend.Goals as goal

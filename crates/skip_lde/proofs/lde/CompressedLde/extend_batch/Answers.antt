@@ -1,4 +1,4 @@
-use Rattle.std.proofs.Common.{◌≡◌, ℕ, ◌/◌, ◌<◌, ◌≤◌, List, length, ◌∙◌, subst, arith, length-drop, length-take}
+use Rattle.std.proofs.Common.{◌≡◌, ℕ, ◌/◌, ◌<◌, List, length, ◌∙◌, subst, arith, length-drop, length-take}
 use Rattle.skip_lde.specs.Rows.{transmitted, bytes_of_row, packed_row}
 use Rattle.skip_lde.specs.Tables.{SumsEntriesOfRows}
 use Rattle.skip_lde.proofs.Extensions.{entries_extend}

@@ -1,4 +1,4 @@
-use Rattle.std.proofs.Common.{◌≤◌, ◌^◌, length, arith, pow_mono}
+use Rattle.std.proofs.Common.{◌≤◌, ◌^◌, length, pow_mono}
 use Rattle.std.proofs.iter.Serving.{serving}
 use Rattle.skip_lde.proofs.points.Basis.first_points.Goals as goal
 
