@@ -1,6 +1,5 @@
 // How many dimensions a rule's degree needs above the skipped subspace, and which degrees a domain admits.
-ghost use Rattle.std.specs.Prelude.{◌≡◌, ℕ, ◌-◌, ◌^◌, ◌<◌, ◌≤◌, max, true, false, IfSome, MatchOption, nat_le};
-ghost use Rattle.std.specs.Option.{option_map, unwrap_or};
+ghost use Rattle.std.specs.Prelude.{◌≡◌, true, MatchOption};
 ghost use Rattle.skip_dimensions.specs.Degrees.{bits, extra, dimensions, admits, Reaches, Least, Fits};
 
 // Number of bits of n.

@@ -1,5 +1,5 @@
 // The numbers of a domain.
-ghost use Rattle.std.specs.Prelude.{◌≡◌, ℕ, ◌-◌, ◌*◌, ◌/◌, ◌^◌, ◌<◌, ◌≤◌, min, true, IfOk, Some};
+ghost use Rattle.std.specs.Prelude.{◌≡◌, ◌-◌, ◌*◌, ◌/◌, ◌^◌, ◌<◌, ◌≤◌, min, true, IfOk, Some};
 ghost use Rattle.fields.specs.Tower.{width};
 ghost use Rattle.skip_dimensions.specs.Degrees.{dimensions, admits, Fits};
 ghost use Rattle.skip_dimensions.specs.Refusals.{reported, limit, construction, construction_for};
@@ -19,7 +19,6 @@ pub struct Dimensions {
 }
 
 // Number of points of that many dimensions.
-#[tactic(auto, using(crate::proofs::Degrees::shifted_one))]
 fn points(dimensions: usize) -> usize
     requires { dimensions < 64 }
     ensures { result ≡ 2 ^ dimensions }

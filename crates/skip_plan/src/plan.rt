@@ -1,18 +1,21 @@
 // The plan of a round: for a shape, the sizes of its domain and of every buffer, or why there is none.
-ghost use Rattle.std.specs.Prelude.{◌≡◌, ℕ, ◌-◌, ◌*◌, ◌^◌, ◌<◌, IfOk, MatchResult};
+ghost use Rattle.std.specs.Prelude.{◌≡◌, ℕ, ◌-◌, ◌*◌, ◌^◌, ◌<◌, Some, IfOk, MatchResult};
 ghost use Rattle.skip_dimensions.specs.Degrees.{Fits};
 ghost use Rattle.skip_plan.specs.Plans.{Free, lengths_for, plan_for, scratch_for, outcome, planning};
+ghost use Rattle.skip_plan.specs.Texts.{shape_text, error_text, lengths_text, scratch_text};
 ghost use Rattle.skip_composition.specs.Rules.{degree_of};
 ghost use Rattle.skip_plan.specs.declared.plan.PlanError.TheVariants.{Domain};
 
 use skip_composition::rule::Rule;
-use skip_dimensions::degree::admits_degree;
 use skip_dimensions::dimensions::Dimensions;
 use skip_dimensions::fault::SkipDomainError;
+use skip_dimensions::refusal::Refusal;
+use std::error::Error;
+use std::fmt;
 
 // What a planner asks about: the dimensions that are skipped, the degree that sizes the domain,
 // and the code of the rule.
-#[derive(Clone, Copy)]
+#[derive(Clone, Copy, PartialEq, Eq, Debug)]
 pub struct Shape {
     pub log_size: usize,
     pub degree: usize,
@@ -20,7 +23,7 @@ pub struct Shape {
 }
 
 // Why a shape has no plan.
-#[derive(Clone, Copy)]
+#[derive(Clone, Copy, PartialEq, Eq, Debug)]
 pub enum PlanError {
     // No rule has that code. This is no cause of the table of refusals.
     UnknownRule { code: usize },
@@ -39,7 +42,7 @@ impl From<SkipDomainError> for PlanError {
 }
 
 // Lengths of the buffers, in elements.
-#[derive(Clone, Copy)]
+#[derive(Clone, Copy, PartialEq, Eq, Debug)]
 pub struct Lengths {
     pub points: usize,
     pub extension_table: usize,
@@ -49,7 +52,7 @@ pub struct Lengths {
 }
 
 // Scratch that each call needs, in elements.
-#[derive(Clone, Copy)]
+#[derive(Clone, Copy, PartialEq, Eq, Debug)]
 pub struct Scratch {
     pub row_call: usize,
     pub claim_call: usize,
@@ -73,48 +76,54 @@ pub struct Plan {
     pub scratch: Scratch,
 }
 
-// The buffers of a round over these dimensions.
-fn lengths_of(dimensions: &Dimensions) -> Lengths
-    ensures { result ≡ lengths_for dimensions.now.log_size dimensions.now.log_extended }
-{
-    let num_transmitted = dimensions.num_transmitted();
-    Lengths {
-        points: dimensions.extended_size(),
-        extension_table: 256 * num_transmitted,
-        message: num_transmitted,
-        selector_table: 256 * dimensions.row_bytes(),
-        vector: dimensions.size(),
+impl Lengths {
+    // The buffers of a round over these dimensions.
+    fn over(dimensions: &Dimensions) -> Lengths
+        ensures { result ≡ lengths_for dimensions.now.log_size dimensions.now.log_extended }
+    {
+        Lengths {
+            points: dimensions.extended_size(),
+            extension_table: dimensions.table_len(),
+            message: dimensions.num_transmitted(),
+            selector_table: 256 * dimensions.row_bytes(),
+            vector: dimensions.size(),
+        }
     }
 }
 
-// The scratch of a round over these dimensions, for a rule of that arity.
-fn scratch_of(dimensions: &Dimensions, arity: u16) -> Scratch
-    ensures { result ≡ scratch_for dimensions.now.log_size dimensions.now.log_extended arity }
-{
-    let num_transmitted = dimensions.num_transmitted();
-    Scratch {
-        row_call: arity as usize * (num_transmitted + 1),
-        claim_call: arity as usize,
-        evaluate: num_transmitted,
-        selector: dimensions.size(),
+impl Scratch {
+    // The scratch of a round over these dimensions, for a rule of that arity.
+    fn over(dimensions: &Dimensions, arity: u16) -> Scratch
+        ensures { result ≡ scratch_for dimensions.now.log_size dimensions.now.log_extended arity }
+    {
+        let arity = usize::from(arity);
+        let num_transmitted = dimensions.num_transmitted();
+        Scratch {
+            row_call: arity * (num_transmitted + 1),
+            claim_call: arity,
+            evaluate: num_transmitted,
+            selector: dimensions.size(),
+        }
     }
 }
 
-// The plan of a rule over these dimensions.
-fn plan_of(rule: Rule, dimensions: &Dimensions) -> Plan
-    ensures { result ≡ plan_for dimensions.now.log_size dimensions.now.log_extended rule }
-{
-    let size = dimensions.size();
-    Plan {
-        rule,
-        log_size: dimensions.log_size,
-        log_extended: dimensions.log_extended,
-        size,
-        num_transmitted: dimensions.num_transmitted(),
-        row_bytes: dimensions.row_bytes(),
-        round_degree: rule.degree() as usize * (size - 1),
-        lengths: lengths_of(dimensions),
-        scratch: scratch_of(dimensions, rule.arity()),
+impl Plan {
+    // The plan of a rule over these dimensions.
+    fn over(dimensions: &Dimensions, rule: Rule) -> Plan
+        ensures { result ≡ plan_for dimensions.now.log_size dimensions.now.log_extended rule }
+    {
+        let size = dimensions.size();
+        Plan {
+            rule,
+            log_size: dimensions.log_size,
+            log_extended: dimensions.log_extended,
+            size,
+            num_transmitted: dimensions.num_transmitted(),
+            row_bytes: dimensions.row_bytes(),
+            round_degree: usize::from(rule.degree()) * (size - 1),
+            lengths: Lengths::over(dimensions),
+            scratch: Scratch::over(dimensions, rule.arity()),
+        }
     }
 }
 
@@ -127,18 +136,104 @@ impl Shape {
         ensures wide { IfOk result (λ p. Fits p.log_size p.log_extended (degree_of p.rule)) }
         ensures exact { MatchResult result (λ p. Free log_bits self.now p.rule p.log_size p.log_extended) (λ _. (rule : Rule) (s e : ℕ) → Free log_bits self.now rule s e → ⊥) }
     {
-        let Some(rule) = Rule::from_code(self.code) else {
-            return Err(PlanError::UnknownRule { code: self.code });
-        };
+        let code = self.code;
+        let rule = Rule::from_code(code).ok_or(PlanError::UnknownRule { code })?;
         let dimensions = Dimensions::for_degree(log_bits, self.log_size, self.degree)?;
         let degree = rule.degree();
-        if !admits_degree(
-            dimensions.log_size,
-            dimensions.log_extended,
-            degree as usize,
-        ) {
+        if !dimensions.admits_degree(usize::from(degree)) {
             return Err(PlanError::DegreeNotAdmitted { degree });
         }
-        Ok(plan_of(rule, &dimensions))
+        Ok(Plan::over(&dimensions, rule))
+    }
+}
+
+// The three numbers as a line writes them.
+impl fmt::Display for Shape {
+    ghost output = { λ h. Some (shape_text h) };
+
+    fn fmt<W: fmt::Write>(&self, f: &mut fmt::Formatter<W>) -> fmt::Result {
+        let Shape {
+            log_size,
+            degree,
+            code,
+        } = self;
+        write!(f, "{log_size} {degree} {code}")
+    }
+}
+
+// A cause of the table of refusals by its number, its name and its values.
+impl fmt::Display for PlanError {
+    ghost output = { λ e. Some (error_text e) };
+
+    fn fmt<W: fmt::Write>(&self, f: &mut fmt::Formatter<W>) -> fmt::Result {
+        match self {
+            PlanError::UnknownRule { code } => write!(f, "no rule has code {code}"),
+            PlanError::Domain(fault) => write!(f, "refused {} {fault}", fault.number()),
+            PlanError::DegreeNotAdmitted { degree } => {
+                write!(f, "refused 8 DegreeNotAdmitted: degree {degree}")
+            }
+        }
+    }
+}
+
+impl Error for PlanError {}
+
+impl fmt::Display for Lengths {
+    ghost output = { λ l. Some (lengths_text l) };
+
+    fn fmt<W: fmt::Write>(&self, f: &mut fmt::Formatter<W>) -> fmt::Result {
+        let Lengths {
+            points,
+            extension_table,
+            message,
+            selector_table,
+            vector,
+        } = self;
+        write!(
+            f,
+            "points {points}, extension table {extension_table}, message {message}, selector table {selector_table}, vector {vector}"
+        )
+    }
+}
+
+impl fmt::Display for Scratch {
+    ghost output = { λ s. Some (scratch_text s) };
+
+    fn fmt<W: fmt::Write>(&self, f: &mut fmt::Formatter<W>) -> fmt::Result {
+        let Scratch {
+            row_call,
+            claim_call,
+            evaluate,
+            selector,
+        } = self;
+        write!(
+            f,
+            "row call {row_call}, claim call {claim_call}, evaluate {evaluate}, selector {selector}"
+        )
+    }
+}
+
+// One line for each part, indented.
+impl fmt::Display for Plan {
+    fn fmt<W: fmt::Write>(&self, f: &mut fmt::Formatter<W>) -> fmt::Result {
+        let (rule, arity, degree) = (self.rule.text(), self.rule.arity(), self.rule.degree());
+        writeln!(f, "  rule {rule}: operands {arity}, degree {degree}")?;
+        let (dimensions, skipped, transmitted) = (
+            self.log_extended,
+            self.size,
+            self.num_transmitted,
+        );
+        writeln!(
+            f,
+            "  domain: dimensions {dimensions}, skipped {skipped}, transmitted {transmitted}, row bytes {}",
+            self.row_bytes
+        )?;
+        writeln!(
+            f,
+            "  round polynomial: degree at most {}, carried below {}",
+            self.round_degree, self.lengths.points
+        )?;
+        writeln!(f, "  lengths: {}", self.lengths)?;
+        write!(f, "  scratch: {}", self.scratch)
     }
 }

@@ -2,6 +2,7 @@
 use skip_dimensions::degree::{admits_degree, dimensions_for_degree, extra_dimensions};
 use skip_dimensions::dimensions::Dimensions;
 use skip_dimensions::fault::SkipDomainError;
+use skip_dimensions::refusal::Refusal;
 use std::test::Fail;
 
 #[test]
