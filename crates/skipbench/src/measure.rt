@@ -23,9 +23,7 @@ fn dimensions_over<F: TowerLevel>(
     log_size: usize,
     log_extended: usize,
 ) -> anyhow::Result<Dimensions> {
-    Dimensions::new(F::log_bits() as u32, log_size, log_extended).map_err(|_| anyhow!(
-        "there is no such domain"
-    ))
+    Dimensions::over::<F>(log_size, log_extended).map_err(|_| anyhow!("there is no such domain"))
 }
 
 // Room for the table of a domain.
@@ -33,8 +31,7 @@ fn table_room<F: TowerLevel + Clone>(
     heap: Global,
     dimensions: Dimensions,
 ) -> anyhow::Result<Vec<F>> {
-    let length = dimensions.num_transmitted().saturating_mul(256);
-    Ok(vec![in heap; F::zero(); length]?)
+    Ok(vec![in heap; F::zero(); dimensions.table_len()]?)
 }
 
 // Builds the table of a domain.

@@ -1,9 +1,11 @@
 // The calls, over any level F and an extension EF of it. Every lent buffer is filled beforehand, so that
 // what a call wrote and what it left can be seen.
-use crate::print::{print_buffer, print_element, print_list, print_refusal};
-use crate::question::unknown;
+use crate::print::{Elements, Refused};
+use crate::question::{Call, Numbers, Question};
+use crate::unanswered::Unanswered;
 use fields::extension::ExtensionField;
 use fields::field::Field;
+use fields::text::Hexadecimal;
 use fields::tower::TowerLevel;
 use skip_composition::composition::Composition;
 use skip_composition::conjunction::Conjunction;
@@ -14,406 +16,213 @@ use skip_dimensions::fault::SkipDomainError;
 use skip_domain::domain::SkipDomain;
 use skip_lde::fault::CompressedLdeError;
 use skip_lde::lde::CompressedLde;
-use std::alloc::{AllocError, Global};
-use std::io;
 use std::io::Write;
-use words::numeral::{decimal, hexadecimal};
-use words::packed::row_of;
-use words::word::{is_word, split_word};
 
-#[derive(Clone, Copy)]
-pub enum Call {
-    Extra,
-    New,
-    Degree,
-    Admits,
-    Vanishing,
-    Vanishings,
-    Table,
-    Extend,
-    Batch,
-    Conjunction,
-    Square,
-    Conjunction64,
-    Square64,
-}
+type Response = Result<(), Unanswered>;
 
-// The dimensions and the length that most calls begin with.
-#[derive(Clone, Copy)]
-struct Numbers {
-    first: usize,
-    second: usize,
-    third: usize,
-}
+impl Question<'_> {
+    fn extra(&mut self) -> Response {
+        let degree = self.number().ok_or(Unanswered::Unknown)?;
+        match extra_dimensions(degree) {
+            Some(extra) => write!(self.answer, "{extra}")?,
+            None => write!(self.answer, "none")?,
+        }
+        Ok(())
+    }
 
-fn number(text: &[u8]) -> Option<(usize, &[u8])> {
-    let (word, rest) = split_word(text)?;
-    Some((decimal(word)? as usize, rest))
-}
+    fn write_domain<F: TowerLevel>(&mut self, domain: &SkipDomain<F>, points: &[F]) -> Response {
+        let (log_size, size) = (domain.log_size(), domain.size());
+        let (log_extended, count) = (domain.log_extended(), domain.num_transmitted());
+        let derivative = Hexadecimal(domain.derivative_on_subspace());
+        write!(
+            self.answer,
+            "ok {log_size} {size} {log_extended} {count} {derivative}"
+        )?;
+        let subspace = Elements(domain.subspace(points)?);
+        let transmitted = Elements(domain.transmitted(points)?);
+        write!(self.answer, " | {subspace} | {transmitted}")?;
+        Ok(())
+    }
 
-fn three_numbers(text: &[u8]) -> Option<(Numbers, &[u8])> {
-    let (first, rest) = number(text)?;
-    let (second, rest) = number(rest)?;
-    let (third, rest) = number(rest)?;
-    Some((
-        Numbers {
-            first,
-            second,
-            third,
-        },
-        rest,
-    ))
-}
+    // Builds a domain into a points buffer of the length that is asked for.
+    fn build_domain<F: TowerLevel + Clone, B>(&mut self, build: B) -> Response
+    where
+        B: FnOnce(usize, usize, &mut [F]) -> Result<SkipDomain<F>, SkipDomainError>,
+        requires { B.IsAlwaysCallable build }
+    {
+        let n = self.numbers()?;
+        let mut points = self.lent::<F>(n.third)?;
+        match build(n.first, n.second, points.as_mut_slice()) {
+            Ok(domain) => self.write_domain(&domain, points.as_slice()),
+            Err(fault) => self.write_filled(Err(Unanswered::from(fault)), points.as_slice()),
+        }
+    }
 
-// No buffer that a question lends is longer.
-const LONGEST: usize = 1 << 24;
-
-// A buffer filled with the element of number a5a5a5a5, cut to the width.
-fn lent<F: TowerLevel + Clone>(heap: Global, len: usize) -> Result<Vec<F>, AllocError> {
-    vec![in heap; F::from_number(0xa5a5_a5a5); len.min(LONGEST)]
-}
-
-// The elements that the words write.
-fn elements<F: TowerLevel>(heap: Global, text: &[u8]) -> Result<Option<Vec<F>>, AllocError> {
-    let mut values = Vec::new(heap);
-    let mut rest = text;
-    for _ in 0..text.len() {
-        let Some((word, after)) = split_word(rest) else {
-            return Ok(Some(values));
+    // A domain by its dimensions, with a points buffer of the length that it wants.
+    fn domain<F: TowerLevel + Clone>(
+        &self,
+        log_size: usize,
+        log_extended: usize,
+    ) -> Result<SkipDomain<F>, Unanswered> {
+        let len = if log_extended <= 16 {
+            1 << log_extended
+        } else {
+            0
         };
-        let Some(n) = hexadecimal(word) else {
-            return Ok(None);
+        let mut points = self.lent::<F>(len)?;
+        Ok(SkipDomain::new(log_size, log_extended, points.as_mut_slice())?)
+    }
+
+    fn admits<F: TowerLevel + Clone>(&mut self) -> Response {
+        let n = self.numbers()?;
+        let admitted = self.domain::<F>(n.first, n.second)?.admits_degree(n.third);
+        write!(self.answer, "{admitted}")?;
+        Ok(())
+    }
+
+    fn vanishing<F: TowerLevel + Clone>(&mut self) -> Response {
+        let (Some(log_size), Some(log_extended), Some(x)) = (
+            self.number(),
+            self.number(),
+            self.element::<F>(),
+        ) else {
+            return Err(Unanswered::Unknown);
         };
-        values.push(F::from_number(u128::from(n)))?;
-        rest = after;
+        let value = self.domain::<F>(log_size, log_extended)?.vanishing(x);
+        write!(self.answer, "{}", Hexadecimal(value))?;
+        Ok(())
     }
-    Ok(Some(values))
-}
 
-// The packed bytes that digits write; `-` writes none.
-fn packed(heap: Global, text: &[u8]) -> Result<Option<Vec<u8>>, AllocError> {
-    match split_word(text) {
-        Some((word, _)) => {
-            if is_word(word, "-") {
-                return Ok(Some(Vec::new(heap)));
-            }
-            row_of(heap, word)
+    // What came of filling a lent buffer, and the buffer as it was left.
+    fn write_filled<F: TowerLevel>(&mut self, filled: Response, buffer: &[F]) -> Response {
+        match filled {
+            Ok(()) => write!(self.answer, "ok")?,
+            Err(Unanswered::Refused(fault)) => write!(self.answer, "{}", Refused(fault))?,
+            Err(other) => return Err(other),
         }
-        None => Ok(None),
+        write!(self.answer, " | {}", Elements(buffer))?;
+        Ok(())
     }
-}
 
-// A domain by its dimensions, with a points buffer of the length that it wants.
-fn domain_over<F: TowerLevel + Clone>(
-    heap: Global,
-    log_size: usize,
-    log_extended: usize,
-) -> Result<Result<SkipDomain<F>, SkipDomainError>, AllocError> {
-    let len = if log_extended <= 16 {
-        1 << log_extended
-    } else {
-        0
-    };
-    let mut points = lent::<F>(heap, len)?;
-    Ok(SkipDomain::new(log_size, log_extended, points.as_mut_slice()))
-}
-
-fn print_domain<F: TowerLevel>(
-    out: &mut Vec<u8>,
-    domain: &SkipDomain<F>,
-    points: &[F],
-) -> io::Result<()> {
-    let (log_size, size) = (domain.log_size(), domain.size());
-    let (log_extended, count) = (domain.log_extended(), domain.num_transmitted());
-    write!(out, "ok {log_size} {size} {log_extended} {count} ")?;
-    print_element(out, domain.derivative_on_subspace())?;
-    if let Ok(subspace) = domain.subspace(points) {
-        print_buffer(out, subspace)?;
+    fn fill_vanishings<F: TowerLevel + Clone>(&self, n: Numbers, output: &mut [F]) -> Response {
+        let domain = self.domain::<F>(n.first, n.second)?;
+        Ok(domain.vanishing_on_transmitted(output)?)
     }
-    if let Ok(transmitted) = domain.transmitted(points) {
-        print_buffer(out, transmitted)?;
+
+    fn vanishings<F: TowerLevel + Clone>(&mut self) -> Response {
+        let n = self.numbers()?;
+        let mut output = self.lent::<F>(n.third)?;
+        let filled = self.fill_vanishings(n, output.as_mut_slice());
+        self.write_filled(filled, output.as_slice())
     }
-    Ok(())
-}
 
-// What came of building a domain into a points buffer.
-fn print_built<F: TowerLevel>(
-    out: &mut Vec<u8>,
-    built: Result<SkipDomain<F>, SkipDomainError>,
-    points: &[F],
-) -> io::Result<()> {
-    match built {
-        Ok(domain) => print_domain(out, &domain, points),
-        Err(fault) => {
-            print_refusal(out, fault.number(), fault.values())?;
-            print_buffer(out, points)
-        }
-    }
-}
-
-fn answer_extra(out: &mut Vec<u8>, text: &[u8]) -> anyhow::Result<()> {
-    let Some((degree, _)) = number(text) else {
-        return unknown(out);
-    };
-    match extra_dimensions(degree) {
-        Some(extra) => write!(out, "{extra}")?,
-        None => write!(out, "none")?,
-    }
-    Ok(())
-}
-
-fn answer_new<F: TowerLevel + Clone>(
-    out: &mut Vec<u8>,
-    heap: Global,
-    n: Numbers,
-) -> anyhow::Result<()> {
-    let mut points = lent::<F>(heap, n.third)?;
-    let built = SkipDomain::new(n.first, n.second, points.as_mut_slice());
-    print_built(out, built, points.as_slice())?;
-    Ok(())
-}
-
-fn answer_degree<F: TowerLevel + Clone>(
-    out: &mut Vec<u8>,
-    heap: Global,
-    n: Numbers,
-) -> anyhow::Result<()> {
-    let mut points = lent::<F>(heap, n.third)?;
-    let built = SkipDomain::for_degree(n.first, n.second, points.as_mut_slice());
-    print_built(out, built, points.as_slice())?;
-    Ok(())
-}
-
-fn answer_admits<F: TowerLevel + Clone>(
-    out: &mut Vec<u8>,
-    heap: Global,
-    n: Numbers,
-) -> anyhow::Result<()> {
-    match domain_over::<F>(heap, n.first, n.second)? {
-        Ok(domain) => {
-            let admitted = domain.admits_degree(n.third);
-            write!(out, "{admitted}")?;
-        }
-        Err(fault) => print_refusal(out, fault.number(), fault.values())?,
-    }
-    Ok(())
-}
-
-// The dimensions of a domain, and an element.
-fn dimensions_and_element<F: TowerLevel>(text: &[u8]) -> Option<(usize, usize, F)> {
-    let (log_size, rest) = number(text)?;
-    let (log_extended, rest) = number(rest)?;
-    let (word, _) = split_word(rest)?;
-    Some((
-        log_size,
-        log_extended,
-        F::from_number(u128::from(hexadecimal(word)?)),
-    ))
-}
-
-fn answer_vanishing<F: TowerLevel + Clone>(
-    out: &mut Vec<u8>,
-    heap: Global,
-    text: &[u8],
-) -> anyhow::Result<()> {
-    let Some((log_size, log_extended, x)) = dimensions_and_element::<F>(text) else {
-        return unknown(out);
-    };
-    match domain_over::<F>(heap, log_size, log_extended)? {
-        Ok(domain) => print_element(out, domain.vanishing(x))?,
-        Err(fault) => print_refusal(out, fault.number(), fault.values())?,
-    }
-    Ok(())
-}
-
-fn print_outcome(out: &mut Vec<u8>, res: Result<(), SkipDomainError>) -> io::Result<()> {
-    match res {
-        Ok(()) => write!(out, "ok"),
-        Err(fault) => print_refusal(out, fault.number(), fault.values()),
-    }
-}
-
-fn answer_vanishings<F: TowerLevel + Clone>(
-    out: &mut Vec<u8>,
-    heap: Global,
-    n: Numbers,
-) -> anyhow::Result<()> {
-    let mut output = lent::<F>(heap, n.third)?;
-    let result = match domain_over::<F>(heap, n.first, n.second)? {
-        Ok(domain) => domain.vanishing_on_transmitted(output.as_mut_slice()),
-        Err(fault) => Err(fault),
-    };
-    print_outcome(out, result)?;
-    print_buffer(out, output.as_slice())?;
-    Ok(())
-}
-
-fn print_extension<F: TowerLevel>(
-    out: &mut Vec<u8>,
-    built: Result<CompressedLde<F>, CompressedLdeError>,
-) -> io::Result<()> {
-    match built {
-        Ok(lde) => {
-            let (count, chunks, len) = (lde.num_transmitted(), lde.num_chunks(), lde.table_len());
-            write!(out, "ok {count} {chunks} {len}")
-        }
-        Err(fault) => print_refusal(out, fault.number(), fault.values()),
-    }
-}
-
-fn answer_table<F: TowerLevel + Clone>(
-    out: &mut Vec<u8>,
-    heap: Global,
-    n: Numbers,
-) -> anyhow::Result<()> {
-    let mut table = lent::<F>(heap, n.third)?;
-    let built = CompressedLde::new(n.first, n.second, table.as_mut_slice());
-    print_extension(out, built)?;
-    print_buffer(out, table.as_slice())?;
-    Ok(())
-}
-
-// The number of elements of the table of these dimensions, and 0 where there is none.
-fn table_len<F: TowerLevel>(log_size: usize, log_extended: usize) -> usize {
-    match Dimensions::new(F::log_bits() as u32, log_size, log_extended) {
-        Ok(dimensions) => dimensions.num_transmitted().saturating_mul(256),
-        Err(_) => 0,
-    }
-}
-
-// Extends one row, or whole rows, from the built table.
-fn extended<F: TowerLevel + Clone>(
-    heap: Global,
-    n: Numbers,
-    rows: &[u8],
-    output: &mut [F],
-    one: bool,
-) -> Result<Result<(), CompressedLdeError>, AllocError> {
-    let mut table = lent::<F>(heap, table_len::<F>(n.first, n.second))?;
-    Ok(
+    fn table<F: TowerLevel + Clone>(&mut self) -> Response {
+        let n = self.numbers()?;
+        let mut table = self.lent::<F>(n.third)?;
         match CompressedLde::new(n.first, n.second, table.as_mut_slice()) {
             Ok(lde) => {
-                if one {
-                    lde.extend(table.as_slice(), rows, output)
-                } else {
-                    lde.extend_batch(table.as_slice(), rows, output)
-                }
+                let (count, chunks) = (lde.num_transmitted(), lde.num_chunks());
+                write!(self.answer, "ok {count} {chunks} {}", lde.table_len())?;
             }
-            Err(fault) => Err(fault),
-        },
-    )
-}
-
-fn answer_rows<F: TowerLevel + Clone>(
-    out: &mut Vec<u8>,
-    heap: Global,
-    n: Numbers,
-    rows: &[u8],
-    one: bool,
-) -> anyhow::Result<()> {
-    let mut output = lent::<F>(heap, n.third)?;
-    match extended(heap, n, rows, output.as_mut_slice(), one)? {
-        Ok(()) => write!(out, "ok")?,
-        Err(fault) => print_refusal(out, fault.number(), fault.values())?,
+            Err(fault) => write!(self.answer, "{}", Refused(fault))?,
+        }
+        write!(self.answer, " | {}", Elements(table.as_slice()))?;
+        Ok(())
     }
-    print_buffer(out, output.as_slice())?;
-    Ok(())
-}
 
-fn print_composed<F: Field, C: Composition<F>, E: TowerLevel>(
-    out: &mut Vec<u8>,
-    composition: &C,
-    value: E,
-) -> io::Result<()> {
-    let (arity, degree) = (composition.arity(), composition.degree());
-    write!(out, "{arity} {degree} ")?;
-    print_element(out, value)
-}
+    // Extends rows from the built table by one of the two calls that do.
+    fn fill_extended<F: TowerLevel + Clone, E>(
+        &self,
+        n: Numbers,
+        rows: &[u8],
+        output: &mut [F],
+        extend: E,
+    ) -> Response
+    where
+        E: FnOnce(&CompressedLde<F>, &[F], &[u8], &mut [F]) -> Result<(), CompressedLdeError>,
+        requires { E.IsAlwaysCallable extend }
+    {
+        let dimensions = Dimensions::over::<F>(n.first, n.second)?;
+        let mut table = self.lent::<F>(dimensions.table_len())?;
+        let lde = CompressedLde::from_dimensions(dimensions, table.as_mut_slice())?;
+        Ok(extend(&lde, table.as_slice(), rows, output)?)
+    }
 
-fn compose_base<F: TowerLevel, C: Composition<F>>(
-    out: &mut Vec<u8>,
-    heap: Global,
-    composition: &C,
-    text: &[u8],
-) -> anyhow::Result<()> {
-    let Some(values) = elements::<F>(heap, text)? else {
-        return unknown(out);
-    };
-    let value = composition.eval_base(values.as_slice());
-    print_composed::<F, C, F>(out, composition, value)?;
-    Ok(())
-}
+    fn extend_by<F: TowerLevel + Clone, E>(&mut self, extend: E) -> Response
+    where
+        E: FnOnce(&CompressedLde<F>, &[F], &[u8], &mut [F]) -> Result<(), CompressedLdeError>,
+        requires { E.IsAlwaysCallable extend }
+    {
+        let n = self.numbers()?;
+        let rows = self.row()?;
+        let mut output = self.lent::<F>(n.third)?;
+        let filled = self.fill_extended(n, rows.as_slice(), output.as_mut_slice(), extend);
+        self.write_filled(filled, output.as_slice())
+    }
 
-fn compose_extension<F: TowerLevel, EF: TowerLevel + ExtensionField<F, D>, D, C: Composition<F>>(
-    out: &mut Vec<u8>,
-    heap: Global,
-    composition: &C,
-    text: &[u8],
-) -> anyhow::Result<()> {
-    let Some(values) = elements::<EF>(heap, text)? else {
-        return unknown(out);
-    };
-    let value = composition.eval_extension::<EF, D>(values.as_slice());
-    print_composed::<F, C, EF>(out, composition, value)?;
-    Ok(())
-}
+    // Evaluates a composition at the elements that the words write.
+    fn compose<F: Field, C: Composition<F>, E: TowerLevel, V>(
+        &mut self,
+        composition: &C,
+        evaluate: V,
+    ) -> Response
+    where
+        V: FnOnce(&C, &[E]) -> E,
+        requires { V.IsAlwaysCallable evaluate }
+    {
+        let values = self.elements::<E>()?;
+        let value = Hexadecimal(evaluate(composition, values.as_slice()));
+        let (arity, degree) = (composition.arity(), composition.degree());
+        write!(self.answer, "{arity} {degree} {value}")?;
+        Ok(())
+    }
 
-// The calls of three numbers.
-fn answer_numbers<F: TowerLevel + Clone>(
-    out: &mut Vec<u8>,
-    heap: Global,
-    call: Call,
-    text: &[u8],
-) -> anyhow::Result<()> {
-    let Some((n, rest)) = three_numbers(text) else {
-        return unknown(out);
-    };
-    match call {
-        Call::New => answer_new::<F>(out, heap, n),
-        Call::Degree => answer_degree::<F>(out, heap, n),
-        Call::Admits => answer_admits::<F>(out, heap, n),
-        Call::Vanishings => answer_vanishings::<F>(out, heap, n),
-        Call::Table => answer_table::<F>(out, heap, n),
-        _ => {
-            let Some(rows) = packed(heap, rest)? else {
-                return unknown(out);
-            };
-            answer_rows::<F>(out, heap, n, rows.as_slice(), matches!(call, Call::Extend))
+    fn compose_base<F: TowerLevel, C: Composition<F>>(&mut self, composition: &C) -> Response {
+        self.compose::<F, C, F, _>(composition, |c, values| c.eval_base(values))
+    }
+
+    fn compose_extension<F: Field, EF: TowerLevel + ExtensionField<F, D>, D, C: Composition<F>>(
+        &mut self,
+        composition: &C,
+    ) -> Response {
+        self.compose::<F, C, EF, _>(composition, |c, values| {
+            c.eval_extension::<EF, D>(values)
+        })
+    }
+
+    // The answer to a call over F.
+    pub(crate) fn respond_in<F: TowerLevel + Clone>(&mut self, call: Call) -> Response {
+        match call {
+            Call::Extra => self.extra(),
+            Call::New => self.build_domain::<F, _>(|s, e, points| SkipDomain::new(s, e, points)),
+            Call::Degree => {
+                self.build_domain::<F, _>(|s, d, points| SkipDomain::for_degree(s, d, points))
+            }
+            Call::Admits => self.admits::<F>(),
+            Call::Vanishing => self.vanishing::<F>(),
+            Call::Vanishings => self.vanishings::<F>(),
+            Call::Table => self.table::<F>(),
+            Call::Extend => {
+                self.extend_by::<F, _>(|lde, table, row, out| lde.extend(table, row, out))
+            }
+            Call::Batch => {
+                self.extend_by::<F, _>(|lde, table, rows, out| lde.extend_batch(table, rows, out))
+            }
+            Call::Conjunction => self.compose_base::<F, Conjunction>(&Conjunction),
+            Call::Square => self.compose_base::<F, SquareProduct>(&SquareProduct),
+            Call::Conjunction64 | Call::Square64 => Err(Unanswered::Unknown),
         }
     }
-}
 
-// The answer to a call over F, from the words after the call's name.
-pub(crate) fn answer_base<F: TowerLevel + Clone>(
-    out: &mut Vec<u8>,
-    heap: Global,
-    call: Call,
-    text: &[u8],
-) -> anyhow::Result<()> {
-    match call {
-        Call::Extra => answer_extra(out, text),
-        Call::Vanishing => answer_vanishing::<F>(out, heap, text),
-        Call::Conjunction => compose_base::<F, Conjunction>(out, heap, &Conjunction, text),
-        Call::Square => compose_base::<F, SquareProduct>(out, heap, &SquareProduct, text),
-        Call::Conjunction64 | Call::Square64 => unknown(out),
-        _ => answer_numbers::<F>(out, heap, call, text),
-    }
-}
-
-// The same over F and an extension EF of it.
-pub(crate) fn answer<F: TowerLevel + Clone, EF: TowerLevel + ExtensionField<F, D>, D>(
-    out: &mut Vec<u8>,
-    heap: Global,
-    call: Call,
-    text: &[u8],
-) -> anyhow::Result<()> {
-    match call {
-        Call::Conjunction64 => {
-            compose_extension::<F, EF, D, Conjunction>(out, heap, &Conjunction, text)
+    // The same over F and an extension EF of it.
+    pub(crate) fn respond_over<F: TowerLevel + Clone, EF: TowerLevel + ExtensionField<F, D>, D>(
+        &mut self,
+        call: Call,
+    ) -> Response {
+        match call {
+            Call::Conjunction64 => { self.compose_extension::<F, EF, D, Conjunction>(&Conjunction) }
+            Call::Square64 => self.compose_extension::<F, EF, D, SquareProduct>(&SquareProduct),
+            _ => self.respond_in::<F>(call),
         }
-        Call::Square64 => {
-            compose_extension::<F, EF, D, SquareProduct>(out, heap, &SquareProduct, text)
-        }
-        _ => answer_base::<F>(out, heap, call, text),
     }
 }

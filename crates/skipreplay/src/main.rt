@@ -6,20 +6,14 @@
 mod calls;
 mod print;
 mod question;
+mod unanswered;
 
 use crate::question::answer_question;
 use lines::line::Line;
 use lines::source::LineSource;
-use std::alloc::{AllocError, Global};
+use std::alloc::Global;
 use std::io;
 use std::io::{BufWriter, Write};
-
-// How many answers were compared, and how many of them agreed.
-#[derive(Clone, Copy)]
-struct Tally {
-    compared: u64,
-    agreed: u64,
-}
 
 // The text of an expected answer, or none for a line that is a question.
 fn expected(text: &[u8]) -> Option<&[u8]> {
@@ -29,58 +23,74 @@ fn expected(text: &[u8]) -> Option<&[u8]> {
     }
 }
 
-// Prints an answer that nothing was compared with.
-fn print_pending<W: Write>(out: &mut W, pending: &mut Vec<u8>) -> io::Result<()> {
-    if !pending.is_empty() {
-        out.write_all(pending.as_slice())?;
-        out.write_all(b"\n")?;
-        pending.clear();
-    }
-    Ok(())
+// The last answer, as long as nothing was compared with it, and what was compared so far.
+#[derive(Drop)]
+struct Replay<W> {
+    out: W,
+    pending: Vec<u8>,
+    compared: u64,
+    agreed: u64,
 }
 
-// Compares the last answer with the one that is expected.
-fn compare<W: Write>(
-    out: &mut W,
-    pending: &mut Vec<u8>,
-    tally: &mut Tally,
-    number: u64,
-    wanted: &[u8],
-) -> io::Result<()> {
-    tally.compared = tally.compared.saturating_add(1);
-    if pending.as_slice() == wanted {
-        tally.agreed = tally.agreed.saturating_add(1);
-    } else {
-        write!(out, "line {number}: ")?;
-        out.write_all(pending.as_slice())?;
-        out.write_all(b"\n")?;
+impl<W: Write + Drop> Replay<W> {
+    // Prints an answer that nothing was compared with.
+    fn print_pending(&mut self) -> io::Result<()> {
+        if !self.pending.is_empty() {
+            self.out.write_all(self.pending.as_slice())?;
+            self.out.write_all(b"\n")?;
+            self.pending.clear();
+        }
+        Ok(())
     }
-    pending.clear();
-    Ok(())
-}
 
-// Takes a line: an expected answer, or a question.
-fn take_line<W: Write>(
-    out: &mut W,
-    heap: Global,
-    pending: &mut Vec<u8>,
-    tally: &mut Tally,
-    number: u64,
-    text: &[u8],
-) -> anyhow::Result<()> {
-    if let Some(wanted) = expected(text) {
-        compare(out, pending, tally, number, wanted)?;
-        return Ok(());
+    // Compares the last answer with the one that is expected.
+    fn compare(&mut self, number: u64, wanted: &[u8]) -> io::Result<()> {
+        self.compared = self.compared.saturating_add(1);
+        if self.pending.as_slice() == wanted {
+            self.agreed = self.agreed.saturating_add(1);
+        } else {
+            write!(self.out, "line {number}: ")?;
+            self.out.write_all(self.pending.as_slice())?;
+            self.out.write_all(b"\n")?;
+        }
+        self.pending.clear();
+        Ok(())
     }
-    print_pending(out, pending)?;
-    answer_question(pending, heap, text)
+
+    // Takes a line: an expected answer, or a question.
+    fn take(&mut self, heap: Global, number: u64, line: Line) -> io::Result<()> {
+        match line {
+            Line::Passed => Ok(()),
+            Line::Unreadable => writeln!(self.out, "line {number}: unreadable"),
+            Line::Text(text) => match expected(text) {
+                Some(wanted) => self.compare(number, wanted),
+                None => {
+                    self.print_pending()?;
+                    answer_question(&mut self.pending, heap, text)
+                }
+            },
+        }
+    }
+
+    fn finish(&mut self) -> io::Result<()> {
+        self.print_pending()?;
+        let (compared, agreed) = (self.compared, self.agreed);
+        if compared > 0 {
+            let differed = compared.saturating_sub(agreed);
+            writeln!(
+                self.out,
+                "{compared} answers, {agreed} agreed, {differed} differed"
+            )?;
+        }
+        self.out.flush()
+    }
 }
 
 fn run(rt: &HostRuntime) -> anyhow::Result<()> {
-    let mut out = BufWriter::new(rt.alloc(), rt.stdout())?;
     let mut source = LineSource::new();
-    let mut pending = Vec::new(rt.alloc());
-    let mut tally = Tally {
+    let mut replay = Replay {
+        out: BufWriter::new(rt.alloc(), rt.stdout())?,
+        pending: Vec::new(rt.alloc()),
         compared: 0,
         agreed: 0,
     };
@@ -89,30 +99,9 @@ fn run(rt: &HostRuntime) -> anyhow::Result<()> {
             break;
         }
         let number = source.number();
-        match source.line() {
-            Line::Passed => {}
-            Line::Unreadable => writeln!(out, "line {number}: unreadable")?,
-            Line::Text(text) => take_line(
-                &mut out,
-                rt.alloc(),
-                &mut pending,
-                &mut tally,
-                number,
-                text,
-            )?,
-        }
+        replay.take(rt.alloc(), number, source.line())?;
     }
-    print_pending(&mut out, &mut pending)?;
-    let Tally { compared, agreed } = tally;
-    if compared > 0 {
-        let differed = compared.saturating_sub(agreed);
-        writeln!(
-            out,
-            "{compared} answers, {agreed} agreed, {differed} differed"
-        )?;
-    }
-    out.flush()?;
-    Ok(())
+    Ok(replay.finish()?)
 }
 
 fn main(rt: HostRuntime) -> anyhow::Result<()> {

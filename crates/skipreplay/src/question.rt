@@ -1,10 +1,15 @@
-// What a question asks, and over which field.
-use crate::calls::{Call, answer, answer_base};
+// A question: a field, a call and what the call is about, in words; and its answer as it is written.
+use crate::print::Refused;
+use crate::unanswered::Unanswered;
 use fields::byte::Byte;
+use fields::tower::TowerLevel;
 use fields::{Pair16, Pair32, Pair64, Pile8};
-use std::alloc::Global;
+use std::alloc::{AllocError, Global};
 use std::io::Write;
-use words::word::{is_word, split_word};
+use std::str::SplitWhitespace;
+use std::{io, str};
+use words::numeral::{decimal, hexadecimal};
+use words::packed::row_of;
 
 // The fields by their names in a question: 8, 16, 32, and p8 for three pairs over Bit.
 #[derive(Clone, Copy)]
@@ -15,92 +20,150 @@ enum FieldName {
     Pile8,
 }
 
-fn field_named(word: &[u8]) -> Option<FieldName> {
-    if is_word(word, "8") {
-        return Some(FieldName::Byte);
-    }
-    if is_word(word, "16") {
-        return Some(FieldName::Bits16);
-    }
-    if is_word(word, "32") {
-        return Some(FieldName::Bits32);
-    }
-    if is_word(word, "p8") {
-        return Some(FieldName::Pile8);
-    }
-    None
-}
-
-const CALLS: [(&str, Call); 13] = [
-    ("extra", Call::Extra),
-    ("new", Call::New),
-    ("degree", Call::Degree),
-    ("admits", Call::Admits),
-    ("vanishing", Call::Vanishing),
-    ("vanishings", Call::Vanishings),
-    ("table", Call::Table),
-    ("extend", Call::Extend),
-    ("batch", Call::Batch),
-    ("conjunction", Call::Conjunction),
-    ("square", Call::Square),
-    ("conjunction64", Call::Conjunction64),
-    ("square64", Call::Square64),
-];
-
-fn call_named(word: &[u8]) -> Option<Call> {
-    for i in 0..CALLS.len() {
-        let (name, call) = CALLS[i];
-        if is_word(word, name) {
-            return Some(call);
+impl FieldName {
+    fn named(word: &str) -> Option<FieldName> {
+        match word.as_bytes() {
+            b"8" => Some(FieldName::Byte),
+            b"16" => Some(FieldName::Bits16),
+            b"32" => Some(FieldName::Bits32),
+            b"p8" => Some(FieldName::Pile8),
+            _ => None,
         }
     }
-    None
 }
 
-// The field, the call, and the words after it.
-fn read_question(text: &[u8]) -> Option<(FieldName, Call, &[u8])> {
-    let (field, rest) = split_word(text)?;
-    let (call, rest) = split_word(rest)?;
-    Some((field_named(field)?, call_named(call)?, rest))
+#[derive(Clone, Copy)]
+pub(crate) enum Call {
+    Extra,
+    New,
+    Degree,
+    Admits,
+    Vanishing,
+    Vanishings,
+    Table,
+    Extend,
+    Batch,
+    Conjunction,
+    Square,
+    Conjunction64,
+    Square64,
 }
 
-// Each field has a function of its own. The questions on an extension are not asked over p8.
-fn answer_byte(out: &mut Vec<u8>, heap: Global, call: Call, rest: &[u8]) -> anyhow::Result<()> {
-    answer::<Byte, Pair64, _>(out, heap, call, rest)
+impl Call {
+    fn named(word: &str) -> Option<Call> {
+        match word.as_bytes() {
+            b"extra" => Some(Call::Extra),
+            b"new" => Some(Call::New),
+            b"degree" => Some(Call::Degree),
+            b"admits" => Some(Call::Admits),
+            b"vanishing" => Some(Call::Vanishing),
+            b"vanishings" => Some(Call::Vanishings),
+            b"table" => Some(Call::Table),
+            b"extend" => Some(Call::Extend),
+            b"batch" => Some(Call::Batch),
+            b"conjunction" => Some(Call::Conjunction),
+            b"square" => Some(Call::Square),
+            b"conjunction64" => Some(Call::Conjunction64),
+            b"square64" => Some(Call::Square64),
+            _ => None,
+        }
+    }
 }
 
-fn answer_bits16(out: &mut Vec<u8>, heap: Global, call: Call, rest: &[u8]) -> anyhow::Result<()> {
-    answer::<Pair16, Pair64, _>(out, heap, call, rest)
+// The dimensions and the length that most calls begin with.
+#[derive(Clone, Copy)]
+pub(crate) struct Numbers {
+    pub(crate) first: usize,
+    pub(crate) second: usize,
+    pub(crate) third: usize,
 }
 
-fn answer_bits32(out: &mut Vec<u8>, heap: Global, call: Call, rest: &[u8]) -> anyhow::Result<()> {
-    answer::<Pair32, Pair64, _>(out, heap, call, rest)
-}
+// No buffer that a question lends is longer.
+const LONGEST: usize = 1 << 24;
 
-fn answer_in(
-    field: FieldName,
-    out: &mut Vec<u8>,
+// The words that are not read yet, and the answer so far.
+#[derive(Drop)]
+pub(crate) struct Question<'a> {
+    words: SplitWhitespace<'a>,
+    pub(crate) answer: &'a mut Vec<u8>,
     heap: Global,
-    call: Call,
-    rest: &[u8],
-) -> anyhow::Result<()> {
-    match field {
-        FieldName::Byte => answer_byte(out, heap, call, rest),
-        FieldName::Bits16 => answer_bits16(out, heap, call, rest),
-        FieldName::Bits32 => answer_bits32(out, heap, call, rest),
-        FieldName::Pile8 => answer_base::<Pile8>(out, heap, call, rest),
+}
+
+impl Question<'_> {
+    pub(crate) fn number(&mut self) -> Option<usize> {
+        let word = self.words.next()?;
+        Some(decimal(word.as_bytes())? as usize)
+    }
+
+    pub(crate) fn numbers(&mut self) -> Result<Numbers, Unanswered> {
+        let (Some(first), Some(second), Some(third)) = (self.number(), self.number(), self.number())
+        else {
+            return Err(Unanswered::Unknown);
+        };
+        Ok(Numbers {
+            first,
+            second,
+            third,
+        })
+    }
+
+    pub(crate) fn element<F: TowerLevel>(&mut self) -> Option<F> {
+        let word = self.words.next()?;
+        Some(F::from_number(u128::from(hexadecimal(word.as_bytes())?)))
+    }
+
+    // The elements that the other words write.
+    pub(crate) fn elements<F: TowerLevel>(&mut self) -> Result<Vec<F>, Unanswered> {
+        let mut values = Vec::new(self.heap);
+        for word in self.words.by_ref() {
+            let number = hexadecimal(word.as_bytes()).ok_or(Unanswered::Unknown)?;
+            values.push(F::from_number(u128::from(number)))?;
+        }
+        Ok(values)
+    }
+
+    // The packed bytes that digits write; `-` writes none.
+    pub(crate) fn row(&mut self) -> Result<Vec<u8>, Unanswered> {
+        let word = self.words.next().ok_or(Unanswered::Unknown)?;
+        let digits = if word == "-" { "" } else { word };
+        row_of(self.heap, digits.as_bytes())?.ok_or(Unanswered::Unknown)
+    }
+
+    // A buffer filled with the element of number a5a5a5a5, cut to the width.
+    pub(crate) fn lent<F: TowerLevel + Clone>(&self, len: usize) -> Result<Vec<F>, AllocError> {
+        vec![in self.heap; F::from_number(0xa5a5_a5a5); len.min(LONGEST)]
+    }
+
+    // Reads the field and the call, and answers. The questions on an extension are not asked over p8.
+    fn respond(&mut self) -> Result<(), Unanswered> {
+        let field = self.words.next().and_then(FieldName::named);
+        let call = self.words.next().and_then(Call::named);
+        let (Some(field), Some(call)) = (field, call) else {
+            return Err(Unanswered::Unknown);
+        };
+        match field {
+            FieldName::Byte => self.respond_over::<Byte, Pair64, _>(call),
+            FieldName::Bits16 => self.respond_over::<Pair16, Pair64, _>(call),
+            FieldName::Bits32 => self.respond_over::<Pair32, Pair64, _>(call),
+            FieldName::Pile8 => self.respond_in::<Pile8>(call),
+        }
     }
 }
 
 // Answers a question into the buffer; a line that is no question gets `unknown`.
-pub(crate) fn answer_question(out: &mut Vec<u8>, heap: Global, text: &[u8]) -> anyhow::Result<()> {
-    match read_question(text) {
-        Some((field, call, rest)) => answer_in(field, out, heap, call, rest),
-        None => unknown(out),
+pub(crate) fn answer_question(answer: &mut Vec<u8>, heap: Global, text: &[u8]) -> io::Result<()> {
+    let Ok(text) = str::from_utf8(text) else {
+        return write!(answer, "unknown");
+    };
+    let mut question = Question {
+        words: text.split_whitespace(),
+        answer,
+        heap,
+    };
+    match question.respond() {
+        Ok(()) => Ok(()),
+        Err(Unanswered::Unknown) => write!(question.answer, "unknown"),
+        Err(Unanswered::Refused(fault)) => write!(question.answer, "{}", Refused(fault)),
+        Err(Unanswered::Failed(error)) => Err(error),
     }
-}
-
-pub(crate) fn unknown(out: &mut Vec<u8>) -> anyhow::Result<()> {
-    write!(out, "unknown")?;
-    Ok(())
 }
