@@ -1,7 +1,6 @@
 // The points that the Cantor basis of a level spans.
-ghost use Rattle.std.specs.Prelude.{◌≡◌, ◌<◌, if◌then◌else◌};
+ghost use Rattle.std.specs.Prelude.{◌≡◌};
 ghost use Rattle.algebra.specs.Points.{basis_element_or_zero, point as cantor_point};
-ghost use Rattle.algebra.specs.Sums.{bit_set};
 
 use fields::field::Field;
 use fields::tower::TowerLevel;

@@ -7,7 +7,7 @@ ghost use Rattle.algebra.specs.Interpolation.{Apart};
 ghost use Rattle.algebra.specs.Points.{point as cantor_point, nonzero_product};
 ghost use Rattle.skip_dimensions.specs.Degrees.{extra, dimensions as dimensions_for, admits, Reaches, Least, Fits};
 ghost use Rattle.skip_domain.specs.Domains.{Room, points_of, vanishing_of, transmitted_vanishing, ZeroExactlyOn};
-ghost use Rattle.skip_dimensions.specs.Refusals.{reported, construction, wrong_length, building, building_for};
+ghost use Rattle.skip_dimensions.specs.Refusals.{reported, wrong_length, building, building_for};
 
 use crate::points::fill_points;
 use crate::vanishing::{fill_block, vanishing_poly};
