@@ -1,4 +1,4 @@
-// The least time of a repetition, and the checksum after the last.
+// The time of repetitions, and the checksum of what they leave.
 ghost use Rattle.std.specs.Prelude.{◌≡◌, ◌<◌, ◌-◌, ◌*◌, ◌/◌, ◌^◌, ℕ, min, IfOk, OnOk};
 ghost use Rattle.std.specs.Duration.{as_nanos};
 ghost use Rattle.measuring.specs.Repetitions.{Repeated};
@@ -11,6 +11,7 @@ pub trait Timed {
     // What stands before a repetition, and what after it.
     ghost repeats: { Self → Self → Type 0 };
 
+    // The checksum of what stands here, from the one before.
     ghost sum: { Self → ℕ → ℕ };
 
     // One repetition.
@@ -26,6 +27,7 @@ pub trait Timed {
         ensures { 0 < result };
 }
 
+// The least time of a repetition, the checksum after the last, and how many operations a repetition does.
 #[derive(Clone, Copy)]
 pub struct Outcome {
     pub least: Duration,
