@@ -9,7 +9,8 @@ use lib.Bits.{bit_and, bit_xor, differ, and_mask}
 use Rattle.std.proofs.lemmas.Bool.{eqb-true}
 use Rattle.fields.specs.Field.{Operations, FieldLaws}
 use Rattle.fields.specs.Rings.{zero_sum}
-use Rattle.algebra.specs.Sums.{bit_set, bit_sum}
+use Rattle.fields.specs.Tower.{bit_set}
+use Rattle.algebra.specs.Sums.{bit_sum}
 use Rattle.algebra.proofs.Sums.{sum_same, sum_none, sum_add, sum_split, sum_from_first}
 use Rattle.algebra.proofs.Xors.{bit_of_xor, bit_of_half, xor_back, xor_set_bit}
 

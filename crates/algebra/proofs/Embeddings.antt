@@ -5,15 +5,15 @@ use native.Mathlib.Decide.{ℕ_discrete}
 use lib.ListN.{length-map}
 use Rattle.std.proofs.lemmas.Bool.{eq-eqb, ne_eqb, cond-true, cond-false}
 use Rattle.fields.specs.Field.{Operations, FieldLaws}
-use Rattle.fields.specs.Tower.{Level, LevelLaws, width, phi}
+use Rattle.fields.specs.Tower.{Level, LevelLaws, width, phi, bit_set}
 use Rattle.fields.specs.Rings.{zero_product}
 use Rattle.fields.specs.Fields.{same_or_not}
-use Rattle.algebra.specs.Sums.{bit_set, sum_below, product_below, sum_over, bit_sum}
+use Rattle.algebra.specs.Sums.{sum_below, product_below, sum_over, bit_sum}
 use Rattle.algebra.specs.Quotients.{quotient}
 use Rattle.algebra.specs.Polynomials.{value_at, Below}
 use Rattle.algebra.specs.Interpolation.{Apart, lagrange, interpolation}
 use Rattle.algebra.specs.Points.{point, phi_power, vanishing}
-use Rattle.algebra.specs.Embeddings.{Embeds}
+use Rattle.fields.specs.Extension.{Keeps}
 use Rattle.algebra.proofs.Divisions.{sum_of_same, sum_nonzero, product_quotient, quotient_unique}
 use Rattle.algebra.proofs.Sums.{sum_same}
 use Rattle.algebra.proofs.Products.{product_same}
@@ -21,10 +21,10 @@ use Rattle.algebra.proofs.Degrees.{degree_value}
 use Rattle.algebra.proofs.Spans.{Spanned, points_spanned}
 
 -- a field is embedded in itself
-pub identity_embeds : {F : Type 0} (o : Operations F) → Embeds o o (λ x. x)
+pub identity_embeds : {F : Type 0} (o : Operations F) → Keeps o o (λ x. x)
 identity_embeds o = record { one = refl; sum = λ x y. refl; product = λ x y. refl }
 
-module _ {F E : Type 0} {o : Operations F} {p : Operations E} {e : F → E} (L : FieldLaws o) (M : FieldLaws p) (H : Embeds o p e) where
+module _ {F E : Type 0} {o : Operations F} {p : Operations E} {e : F → E} (L : FieldLaws o) (M : FieldLaws p) (H : Keeps o p e) where
   open o use {zero as 𝟘, one as 𝟙, sum as ◌⊕◌, product as ◌⊗◌}
 
   infixl 30 ◌⊕◌

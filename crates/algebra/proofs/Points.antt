@@ -3,10 +3,10 @@ use Rattle.std.proofs.Common.{◌≡◌, ℕ, zero, suc, ◌+◌, ◌/◌, ◌%�
 use lib.Bits.{bit_xor}
 use Rattle.std.proofs.lemmas.Bool.{false≢true, lt-ltb, le-ltb, cases_lt}
 use Rattle.fields.specs.Field.{Operations, FieldLaws}
-use Rattle.fields.specs.Tower.{Level, LevelLaws, Solves, width, phi, solution, cantor}
+use Rattle.fields.specs.Tower.{Level, LevelLaws, Solves, width, phi, solution, cantor, bit_set}
 use Rattle.fields.specs.Rings.{zero_sum}
 use Rattle.fields.specs.Levels.{phi_sum, phi_zero, phi_one}
-use Rattle.algebra.specs.Sums.{bit_set, sum_below, bit_sum}
+use Rattle.algebra.specs.Sums.{sum_below, bit_sum}
 use Rattle.algebra.specs.Points.{basis_element_or_zero, point}
 use Rattle.algebra.proofs.Sums.{sum_same}
 use Rattle.algebra.proofs.Xors.{xor_top}

@@ -3,6 +3,5 @@ pub mod Quotients
 pub mod Polynomials
 pub mod Interpolation
 pub mod Points
-pub mod Embeddings
 pub mod Theorems
 pub mod Multisets

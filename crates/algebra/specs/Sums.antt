@@ -1,10 +1,7 @@
 -- Sums and products over the numbers below n, sums over a list, and sums over the set bits of a number.
-use Rattle.std.specs.Prelude.{ℕ, zero, suc, ◌/◌, ◌%◌, ◌^◌, Bool, cond, List, [], ◌∷◌, ◌==◌}
+use Rattle.std.specs.Prelude.{ℕ, zero, suc, cond, List, [], ◌∷◌}
 use Rattle.fields.specs.Field.{Operations}
-
--- whether bit r of j is set
-abbrev pub bit_set : ℕ → ℕ → Bool
-bit_set j r = j / 2 ^ r % 2 == 1
+use Rattle.fields.specs.Tower.{bit_set}
 
 -- f 0 to f (n - 1), joined by an operation; the unit if there are none
 abbrev pub fold_below : {F : Type 0} → (F → F → F) → F → ℕ → (ℕ → F) → F

@@ -8,7 +8,7 @@ use Rattle.algebra.specs.Quotients.{quotient}
 use Rattle.algebra.specs.Polynomials.{value_at}
 use Rattle.algebra.specs.Interpolation.{Apart, Interpolates, lagrange, interpolation}
 use Rattle.algebra.specs.Points.{basis_element_or_zero, point, phi_power, vanishing, nonzero_product}
-use Rattle.algebra.specs.Embeddings.{Embeds}
+use Rattle.fields.specs.Extension.{Keeps}
 
 module _ {F : Type 0} (o : Operations F) where
   -- a polynomial of degree below n that is zero at n different points is zero everywhere, and so is each coefficient
@@ -69,7 +69,7 @@ module _ {F : Type 0} (o : Operations F) (l : Level F) where
 -- in a field that the level's is embedded in
 module _ {F E : Type 0} (o : Operations F) (l : Level F) (p : Operations E) where
   abbrev pub VanishingInExtensions : Type 0
-  VanishingInExtensions = (e : F → E) → Embeds o p e → (k : ℕ) → k ≤ width l → Vanishes p (λ j. e (point o l j)) k
+  VanishingInExtensions = (e : F → E) → Keeps o p e → (k : ℕ) → k ≤ width l → Vanishes p (λ j. e (point o l j)) k
 
   abbrev pub LagrangeInExtensions : Type 0
-  LagrangeInExtensions = (e : F → E) → Embeds o p e → (k : ℕ) → k ≤ width l → Barycentric p (λ j. e (point o l j)) k
+  LagrangeInExtensions = (e : F → E) → Keeps o p e → (k : ℕ) → k ≤ width l → Barycentric p (λ j. e (point o l j)) k

@@ -20,6 +20,7 @@ pub fn interpolation_exists_once<F: Field>()
 {}
 
 // A point is the sum of v_r over all set bits r of its number, where a bit that has no v_r adds nothing.
+#[tactic(auto, using(crate::proofs::Points::point_bits))]
 pub fn points_of_bits<F: TowerLevel>()
     ensures { PointsOfBits F.Field.ops F.TowerLevel.level }
 {}
@@ -30,11 +31,13 @@ pub fn points_differ<F: TowerLevel>()
 {}
 
 // point(a xor b) = point(a) + point(b).
+#[tactic(auto, using(crate::proofs::Points::point_xor))]
 pub fn points_add<F: TowerLevel>()
     ensures { PointsAdd F.Field.ops F.TowerLevel.level }
 {}
 
 // phi(point(j)) = point(j / 2), where phi(x) = x·x + x.
+#[tactic(auto, using(crate::proofs::Points::phi_point))]
 pub fn points_halve<F: TowerLevel>()
     ensures { PointsHalve F.Field.ops F.TowerLevel.level }
 {}

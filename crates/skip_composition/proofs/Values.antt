@@ -5,7 +5,6 @@ use Rattle.std.proofs.Math.ListN.{get_or-map}
 use Rattle.fields.specs.Field.{Operations, FieldLaws}
 use Rattle.fields.specs.Extension.{Keeps}
 use Rattle.algebra.specs.Polynomials.{Below}
-use Rattle.algebra.specs.Embeddings.{Embeds}
 use Rattle.algebra.proofs.Degrees.{degree_more, degree_zero, degree_constant, degree_add, degree_scale, degree_product}
 use Rattle.algebra.proofs.Embeddings.{embed_zero}
 use Rattle.skip_composition.specs.Theorems.{EvaluationsAgree}
@@ -46,7 +45,7 @@ module _ {F E : Type 0} {o : Operations E} (L : FieldLaws o) (e : F → E) (n : 
       (degree_scale L (e m.coefficient) (degree_more L (omega (arith, mul-le-mul_right (n - 1) k)) (product_degree m.factors)))
       (value_degree d p (omega arith))
 
-module _ {F E : Type 0} {o : Operations F} {p : Operations E} {e : F → E} (L : FieldLaws o) (M : FieldLaws p) (H : Embeds o p e) where
+module _ {F E : Type 0} {o : Operations F} {p : Operations E} {e : F → E} (L : FieldLaws o) (M : FieldLaws p) (H : Keeps o p e) where
   product_embeds : (is : List ℕ) (f : ℕ → F) (g : ℕ → E) → ((i : ℕ) → g i ≡ e (f i)) → operand_product p is g ≡ e (operand_product o is f)
   product_embeds [] f g h = sym H.one
   product_embeds (i ∷ is) f g h = ap₂ p.product (h i) (product_embeds is f g h) ∙ sym (H.product _ _)
@@ -62,14 +61,10 @@ module _ {F E : Type 0} {o : Operations F} {p : Operations E} {e : F → E} (L :
   operands_embed xs i = ap (get_or (map e xs) i) (sym (embed_zero L M H)) ∙ get_or-map e xs i o.zero
 
 -- coefficients one stay one
-pub ones_embed : {F E : Type 0} {o : Operations F} {p : Operations E} {e : F → E} → Embeds o p e → (ms : Monomials) (at : ℕ → E) → value_through p e (with_ones o ms) at ≡ value p (with_ones p ms) at
+pub ones_embed : {F E : Type 0} {o : Operations F} {p : Operations E} {e : F → E} → Keeps o p e → (ms : Monomials) (at : ℕ → E) → value_through p e (with_ones o ms) at ≡ value p (with_ones p ms) at
 ones_embed H [] at = refl
 ones_embed {p} H (is ∷ ms) at = ap₂ (λ u w. p.sum (p.product u (operand_product p is at)) w) H.one (ones_embed H ms at)
 
--- an embedding of an interface is an embedding
-pub embeds : {F E : Type 0} {o : Operations F} {p : Operations E} {e : F → E} → Keeps o p e → Embeds o p e
-embeds k = record { one = k.one; sum = k.sum; product = k.product }
-
 -- at the images of a list of operands, a polynomial has its value's image
-pub agrees_embedded : {F E : Type 0} {o : Operations F} {p : Operations E} {m : Embedding F E} → FieldLaws o → FieldLaws p → Keeps o p m → (q : Polynomial F) → EvaluationsAgree o p m.embed q
-agrees_embedded L M K q xs = value_embeds L M (embeds K) q _ _ (operands_embed L M (embeds K) xs)
+pub agrees_embedded : {F E : Type 0} {o : Operations F} {p : Operations E} {m : Embedding F E} → FieldLaws o → FieldLaws p → Keeps o p m.embed → (q : Polynomial F) → EvaluationsAgree o p m.embed q
+agrees_embedded L M K q xs = value_embeds L M K q _ _ (operands_embed L M K xs)

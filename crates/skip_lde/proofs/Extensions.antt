@@ -3,8 +3,8 @@
 use Rattle.std.proofs.Common.{◌≡◌, ℕ, zero, suc, ◌+◌, ◌-◌, ◌*◌, ◌/◌, ◌%◌, ◌^◌, ◌<◌, ◌≤◌, cond, eqb, ◌≢◌, List, length, get_or, replicate, sym, refl, ap, ◌∙◌, arith, pow_pos}
 use lib.Bits.{bit_xor, xor_zero_r}
 use Rattle.fields.specs.Field.{Operations, FieldLaws}
-use Rattle.fields.specs.Tower.{Level, LevelLaws, width}
-use Rattle.algebra.specs.Sums.{bit_set, sum_below, bit_sum}
+use Rattle.fields.specs.Tower.{Level, LevelLaws, width, bit_set}
+use Rattle.algebra.specs.Sums.{sum_below, bit_sum}
 use Rattle.algebra.specs.Interpolation.{lagrange}
 use Rattle.algebra.specs.Points.{point}
 use Rattle.algebra.proofs.Sums.{sum_same, sum_only}

@@ -2,8 +2,7 @@
 -- transmitted points are those after it, up to the first 2 ^ e.
 use Rattle.std.specs.Prelude.{ℕ, ◌+◌, ◌-◌, ◌*◌, ◌/◌, ◌%◌, ◌^◌, Bool, cond, List, take, drop, slice_index}
 use Rattle.fields.specs.Field.{Operations}
-use Rattle.fields.specs.Tower.{Level}
-use Rattle.algebra.specs.Sums.{bit_set}
+use Rattle.fields.specs.Tower.{Level, bit_set}
 use Rattle.algebra.specs.Interpolation.{interpolation}
 use Rattle.algebra.specs.Points.{point}
 
