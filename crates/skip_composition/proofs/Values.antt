@@ -66,5 +66,5 @@ ones_embed H [] at = refl
 ones_embed {p} H (is ∷ ms) at = ap₂ (λ u w. p.sum (p.product u (operand_product p is at)) w) H.one (ones_embed H ms at)
 
 -- at the images of a list of operands, a polynomial has its value's image
-pub agrees_embedded : {F E : Type 0} {o : Operations F} {p : Operations E} {m : Embedding F E} → FieldLaws o → FieldLaws p → Keeps o p m.embed → (q : Polynomial F) → EvaluationsAgree o p m.embed q
+pub agrees_embedded : {F E : Type 0} {o : Operations F} {p : Operations E} {e : F → E} → FieldLaws o → FieldLaws p → Keeps o p e → (q : Polynomial F) → EvaluationsAgree o p e q
 agrees_embedded L M K q xs = value_embeds L M K q _ _ (operands_embed L M K xs)
