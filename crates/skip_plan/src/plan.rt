@@ -4,9 +4,9 @@ ghost use Rattle.skip_dimensions.specs.Degrees.{Fits};
 ghost use Rattle.skip_plan.specs.Plans.{Free, lengths_for, plan_for, scratch_for, outcome, planning};
 ghost use Rattle.skip_plan.specs.Texts.{shape_text, error_text, lengths_text, scratch_text};
 ghost use Rattle.skip_composition.specs.Rules.{degree_of};
-ghost use Rattle.skip_plan.specs.declared.plan.PlanError.TheVariants.{Domain};
+ghost use Rattle.skip_plan.specs.declared.plan.PlanError.TheVariants.{Domain, UnknownRule};
 
-use skip_composition::rule::Rule;
+use skip_composition::rule::{self, Rule};
 use skip_dimensions::dimensions::Dimensions;
 use skip_dimensions::fault::SkipDomainError;
 use skip_dimensions::refusal::Refusal;
@@ -31,6 +31,14 @@ pub enum PlanError {
     Domain(SkipDomainError),
     // The domain is too narrow for the rule's degree.
     DegreeNotAdmitted { degree: u16 },
+}
+
+impl From<rule::UnknownRule> for PlanError {
+    ghost from_gives = { λ e r. r ≡ UnknownRule e.code };
+
+    fn from(e: rule::UnknownRule) -> PlanError {
+        PlanError::UnknownRule { code: e.code }
+    }
 }
 
 impl From<SkipDomainError> for PlanError {
@@ -61,7 +69,7 @@ pub struct Scratch {
 }
 
 // The sizes of a round.
-#[derive(Clone, Copy)]
+#[derive(Clone, Copy, PartialEq, Eq, Debug)]
 pub struct Plan {
     pub rule: Rule,
     pub log_size: usize,
@@ -136,8 +144,7 @@ impl Shape {
         ensures wide { IfOk result (λ p. Fits p.log_size p.log_extended (degree_of p.rule)) }
         ensures exact { MatchResult result (λ p. Free log_bits self.now p.rule p.log_size p.log_extended) (λ _. (rule : Rule) (s e : ℕ) → Free log_bits self.now rule s e → ⊥) }
     {
-        let code = self.code;
-        let rule = Rule::from_code(code).ok_or(PlanError::UnknownRule { code })?;
+        let rule = Rule::try_from(self.code)?;
         let dimensions = Dimensions::for_degree(log_bits, self.log_size, self.degree)?;
         let degree = rule.degree();
         if !dimensions.admits_degree(usize::from(degree)) {
