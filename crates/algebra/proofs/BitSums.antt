@@ -1,17 +1,17 @@
 -- Sums over the set bits of a number: an exclusive or of numbers is a sum of sums.
-use Rattle.std.proofs.Common.{◌≡◌, ℕ, zero, suc, ◌+◌, ◌-◌, ◌/◌, ◌%◌, ◌^◌, ◌<◌, ◌≤◌, Bool, true, false, cond, eqb, [], ◌∷◌, ◌++◌, filter, fold, sym, refl, ap, ◌∙◌, ap₂, lt_of_lt_of_le, add-one, arith, pow_mono}
+use Rattle.std.proofs.Common.{◌≡◌, ℕ, zero, suc, ◌+◌, ◌-◌, ◌/◌, ◌%◌, ◌^◌, ◌<◌, ◌≤◌, Bool, true, false, cond, eqb, [], ◌∷◌, ◌++◌, filter, fold, ◌≢◌, sym, refl, ap, ◌∙◌, ap₂, lt_of_lt_of_le, add-one, arith, pow_mono}
 use Rattle.std.specs.List.{range_with_len}
 use Rattle.std.proofs.lemmas.List.{map-id}
 use Rattle.std.proofs.lemmas.List.FromFn.{filter_of_map_range_with_len_more}
 use Rattle.std.proofs.lemmas.List.Sums.{fold-append}
 use native.Mathlib.Nat.{zero-div, div-eq_of_lt}
 use lib.Bits.{bit_and, bit_xor, differ, and_mask}
-use Rattle.std.proofs.lemmas.Bool.{eqb-true}
+use Rattle.std.proofs.lemmas.Bool.{eqb-true, eq-eqb, ne_eqb, cond-true, cond-false}
 use Rattle.fields.specs.Field.{Operations, FieldLaws}
 use Rattle.fields.specs.Rings.{zero_sum}
 use Rattle.fields.specs.Tower.{bit_set}
 use Rattle.algebra.specs.Sums.{bit_sum}
-use Rattle.algebra.proofs.Sums.{sum_same, sum_none, sum_add, sum_split, sum_from_first}
+use Rattle.algebra.proofs.Sums.{sum_same, sum_none, sum_add, sum_split, sum_more, sum_from_first}
 use Rattle.algebra.proofs.Xors.{bit_of_xor, bit_of_half, xor_back, xor_set_bit}
 
 -- a number below 2 ^ r has no bit r
@@ -61,6 +61,13 @@ module _ {F : Type 0} {o : Operations F} (L : FieldLaws o) where
       ap (λ m. fold (λ s r. s ⊕ v r) z (filter tested (range_with_len 0 m))) (sym (add-one n)) ∙ ap (fold (λ s r. s ⊕ v r) z) last
       ∙ fold-append (λ s r. s ⊕ v r) z below (cond (tested n) (n ∷ []) []) ∙ one_bit (tested n) n v _
       ∙ ap₂ (λ x w. x ⊕ cond (eqb w 1) (v n) 𝟘) (bit_sum_fold n v j z e) (and_mask (j / 2 ^ n) 1)
+
+  -- one more place, as a loop over the bits adds it: after the test of a set bit, and of a clear one
+  pub bit_sum_set : (r : ℕ) (v : ℕ → F) (j : ℕ) → bit_and (j / 2 ^ r) 1 ≡ 1 → bit_sum o (r + 1) v j ≡ bit_sum o r v j ⊕ v r
+  bit_sum_set r v j h = sum_more o r _ ∙ ap (λ w. bit_sum o r v j ⊕ w) (cond-true _ _ _ (eq-eqb (j / 2 ^ r % 2) 1 (sym (and_mask (j / 2 ^ r) 1) ∙ h)))
+
+  pub bit_sum_clear : (r : ℕ) (v : ℕ → F) (j : ℕ) → bit_and (j / 2 ^ r) 1 ≢ 1 → bit_sum o (r + 1) v j ≡ bit_sum o r v j
+  bit_sum_clear r v j h = sum_more o r _ ∙ ap (λ w. bit_sum o r v j ⊕ w) (cond-false _ _ _ (ne_eqb (j / 2 ^ r % 2) 1 (λ e. h (and_mask (j / 2 ^ r) 1 ∙ e)))) ∙ L.ring.sum_zero _
 
   -- more places, where the bits are clear or the summands zero
   pub bit_sum_more : (n m : ℕ) (v : ℕ → F) (j : ℕ) → n ≤ m → ((r : ℕ) → n ≤ r → r < m → cond (bit_set j r) (v r) 𝟘 ≡ 𝟘) → bit_sum o n v j ≡ bit_sum o m v j

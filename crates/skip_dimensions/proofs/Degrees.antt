@@ -1,10 +1,17 @@
 -- What the number of bits says, and why a degree that a domain admits fits it.
-use Rattle.std.proofs.Common.{◌≡◌, ℕ, zero, suc, ◌+◌, ◌-◌, ◌*◌, ◌/◌, ◌^◌, ◌<◌, ◌≤◌, max, Bool, true, false, cond, ◌==◌, refl, leb, IfSome, Some, None, Option, unwrap_or, sym, ap, ◌∙◌, subst, inl, inr, mul-le-mul_right, pow-suc, mul-suc, add-one, arith, pow_pos, pow_mono, pow-add}
+use Rattle.std.proofs.Common.{◌≡◌, ℕ, zero, suc, ◌+◌, ◌-◌, ◌*◌, ◌/◌, ◌%◌, ◌^◌, ◌<◌, ◌≤◌, max, Bool, true, false, cond, ◌==◌, refl, leb, IfSome, Some, None, Option, unwrap_or, sym, ap, ◌∙◌, subst, inl, inr, mul-le-mul_right, pow-suc, mul-suc, add-one, arith, pow_pos, pow_mono, pow-add}
 use native.Mathlib.Nat.{max-le, le-max_left}
 use lib.Count.{count_leading_zeros, leading_unique}
 use Rattle.std.proofs.lemmas.Bool.{cases_lt, lt-leb, leb-true, eqb-false, false≢true}
 use Rattle.std.specs.Option.{SomeIff, option_map}
 use Rattle.skip_dimensions.specs.Degrees.{digits, bits, extra, Reaches, Least, Fits, admits}
+
+-- a one shifted by fewer than 64 places stays a word
+pub shifted_one : (d : ℕ) → d < 64 → 1 * 2 ^ d % 2 ^ 64 ≡ 2 ^ d
+shifted_one d h =
+    let o : d ≤ 63 = omega arith in
+    let p : 2 ^ d ≤ 2 ^ 63 = pow_mono o in
+    omega arith
 
 -- the digits hold n, and one fewer would not
 digits_bound : (k n : ℕ) → n ≤ k → (n < 2 ^ digits k n) × (2 ^ digits k n ≤ 2 * n + (1 - n))

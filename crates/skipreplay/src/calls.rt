@@ -44,18 +44,32 @@ impl Question<'_> {
         Ok(())
     }
 
-    // Builds a domain into a points buffer of the length that is asked for.
-    fn build_domain<F: TowerLevel + Clone, B>(&mut self, build: B) -> Response
-    where
-        B: FnOnce(usize, usize, &mut [F]) -> Result<SkipDomain<F>, SkipDomainError>,
-        requires { B.IsAlwaysCallable build }
-    {
+    // What came of building a domain into a points buffer.
+    fn write_built<F: TowerLevel>(
+        &mut self,
+        built: Result<SkipDomain<F>, SkipDomainError>,
+        points: &[F],
+    ) -> Response {
+        match built {
+            Ok(domain) => self.write_domain(&domain, points),
+            Err(fault) => self.write_filled(Err(Unanswered::from(fault)), points),
+        }
+    }
+
+    // A domain from its dimensions, with a points buffer of the length that is asked for.
+    fn new_domain<F: TowerLevel + Clone>(&mut self) -> Response {
         let n = self.numbers()?;
         let mut points = self.lent::<F>(n.third)?;
-        match build(n.first, n.second, points.as_mut_slice()) {
-            Ok(domain) => self.write_domain(&domain, points.as_slice()),
-            Err(fault) => self.write_filled(Err(Unanswered::from(fault)), points.as_slice()),
-        }
+        let built = SkipDomain::new(n.first, n.second, points.as_mut_slice());
+        self.write_built(built, points.as_slice())
+    }
+
+    // The same from the dimension of the subspace and a degree.
+    fn domain_for_degree<F: TowerLevel + Clone>(&mut self) -> Response {
+        let n = self.numbers()?;
+        let mut points = self.lent::<F>(n.third)?;
+        let built = SkipDomain::for_degree(n.first, n.second, points.as_mut_slice());
+        self.write_built(built, points.as_slice())
     }
 
     // A domain by its dimensions, with a points buffer of the length that it wants.
@@ -194,10 +208,8 @@ impl Question<'_> {
     pub(crate) fn respond_in<F: TowerLevel + Clone>(&mut self, call: Call) -> Response {
         match call {
             Call::Extra => self.extra(),
-            Call::New => self.build_domain::<F, _>(|s, e, points| SkipDomain::new(s, e, points)),
-            Call::Degree => {
-                self.build_domain::<F, _>(|s, d, points| SkipDomain::for_degree(s, d, points))
-            }
+            Call::New => self.new_domain::<F>(),
+            Call::Degree => self.domain_for_degree::<F>(),
             Call::Admits => self.admits::<F>(),
             Call::Vanishing => self.vanishing::<F>(),
             Call::Vanishings => self.vanishings::<F>(),
