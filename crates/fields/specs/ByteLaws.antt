@@ -18,7 +18,7 @@ use Rattle.fields.specs.ByteProduct.{product_right, product_lt, product_comm, pr
 use Rattle.fields.specs.ByteTables.{logs, logs_are, solutions, square_sum, square_sum_lt, solutions_solve, solutions_lt, solutions_only, basis_next, basis_lt}
 use Rattle.fields.specs.Powers.{power_lt, inverse_by_log, inverse_only, zero_inverse}
 
-byte_eq : (x y : Byte) → x.value ≡ y.value → x ≡ y
+pub byte_eq : (x y : Byte) → x.value ≡ y.value → x ≡ y
 byte_eq x y e = go x.value y.value x.ok y.ok e
   where
     made : (n : ℕ) → n < 256 → Byte
@@ -27,13 +27,16 @@ byte_eq x y e = go x.value y.value x.ok y.ok e
     go : (m n : ℕ) (h : m < 256) (k : n < 256) → m ≡ n → made m h ≡ made n k
     go m n h k e' = subst (λ j. (l : j < 256) → made m h ≡ made j l) e' (λ l. ap (made m) (le_prop h l)) k
 
-byte_is : (x : Byte) (n : ℕ) → x.value ≡ n → x ≡ byte n
+pub byte_is : (x : Byte) (n : ℕ) → x.value ≡ n → x ≡ byte n
 byte_is x n e = byte_eq x (byte n) (e ∙ sym (mod-eq_of_lt (subst (λ m. m < 256) e x.ok)))
+
+pub some_byte : (x : Byte) (s : Option ℕ) → Some x.value ≡ s → Some x ≡ option_map byte s
+some_byte x s e = ap Some (byte_is x x.value refl) ∙ ap (option_map byte) e
 
 remade : (x : Byte) → byte x.value ≡ x
 remade x = sym (byte_is x x.value refl)
 
-sum_value : (x y : Byte) → (byte_ops.sum x y).value ≡ bit_xor x.value y.value
+pub sum_value : (x y : Byte) → (byte_ops.sum x y).value ≡ bit_xor x.value y.value
 sum_value x y = mod-eq_of_lt (xor_lt 8 _ _ x.ok y.ok)
 
 product_value : (x y : Byte) → (byte_ops.product x y).value ≡ bilinear x.value y.value

@@ -41,7 +41,7 @@ pub trait TowerLevel: Field {
         ensures within { is_some result ≡ nat_lt j (width level) }
     {
         let mut v = Self::one();
-        for _i in 0..j {
+        for _ in 0..j {
             v = v.solve()?;
         }
         Some(v)

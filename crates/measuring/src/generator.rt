@@ -51,7 +51,8 @@ impl Generator {
 
     // Bytes, each the low bits of a number.
     pub fn bytes(&mut self, heap: Global, count: usize) -> Result<Vec<u8>, AllocError>
-        ensures { IfOk result (λ v. v.items ≡ low_bytes self.old.state count) }
+        ensures count { IfOk result (λ v. vec_len v ≡ count) }
+        ensures values { IfOk result (λ v. v.items ≡ low_bytes self.old.state count) }
     {
         let mut drawn = Vec::new(heap);
         for _ in 0..count {

@@ -61,6 +61,10 @@ module _ {E : Type 0} {o : Operations E} (L : FieldLaws o) where
   dropped [] i = refl
   dropped (x ∷ xs) i = refl
 
+  -- the operands after the first
+  pub operands_after : (xs ys : List E) → ys ≡ drop 1 xs → (i : ℕ) → operands o ys i ≡ operands o xs (suc i)
+  operands_after xs ys h i = ap (λ zs. operands o zs i) h ∙ dropped xs i
+
   -- at a list of operands: the first one times the inner polynomial's value at the others
   pub gate_value : {F : Type 0} (e : F → E) (p : Polynomial F) (xs : List E) → value_through o e (gated p) (operands o xs) ≡ operands o xs 0 ⊗ value_through o e p (operands o (drop 1 xs))
   gate_value e p xs = gated_value e p _ _ (dropped xs)

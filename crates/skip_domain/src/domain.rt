@@ -104,7 +104,7 @@ impl<F: TowerLevel> SkipDomain<F> {
         ensures value { result ≡ admits self.now.dimensions.log_size self.now.dimensions.log_extended degree }
         ensures fits { result ≡ true → Fits self.now.dimensions.log_size self.now.dimensions.log_extended degree }
     {
-        degree::admits_degree(self.log_size(), self.log_extended(), degree)
+        self.dimensions.admits_degree(degree)
     }
 
     // The point of an index: the sum of the basis elements at its set bits; a bit that has no basis

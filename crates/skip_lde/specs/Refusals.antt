@@ -1,7 +1,7 @@
 -- The causes for which an extension is not built and rows are not extended, as the table of refusals lists them.
 -- A refusal is reported by its number and its values; a fault of the domain keeps its own. The first cause that applies
 -- is the one reported.
-use Rattle.std.specs.Prelude.{ℕ, ◌*◌, ◌/◌, ◌%◌, ◌^◌, cond, List, [], ◌∷◌, Some, None, Option, Result, ◌==◌, nat_lt}
+use Rattle.std.specs.Prelude.{ℕ, ◌*◌, ◌/◌, ◌%◌, ◌^◌, cond, List, [], ◌∷◌, ◌++◌, codes, decimal, Some, None, Option, Result, ◌==◌, nat_lt}
 use Rattle.skip_dimensions.specs.Refusals as domain
 use Rattle.skip_dimensions.specs.Refusals.{Report, wrong_length, first_of}
 use Rattle.skip_lde.specs.Rows.{transmitted, bytes_of_row}
@@ -21,6 +21,13 @@ values_of (Domain f) = domain.values_of f
 values_of (NotWholeRows b) = b ∷ []
 values_of (TooManyRows r) = r ∷ []
 values_of (BufferLenMismatch p x a) = p ∷ x ∷ a ∷ []
+
+-- how a cause is written: its name, and each value after its own
+abbrev pub text_of : CompressedLdeError → List ℕ
+text_of (Domain f) = domain.text_of f
+text_of (NotWholeRows b) = codes "NotWholeRows: len " ++ decimal b
+text_of (TooManyRows r) = codes "TooManyRows: rows " ++ decimal r
+text_of (BufferLenMismatch p x a) = codes "BufferLenMismatch: place " ++ (decimal p ++ (codes ", expected " ++ (decimal x ++ (codes ", actual " ++ decimal a))))
 
 -- what a call that may refuse reports
 abbrev pub reported : {X : Type 0} → Result X CompressedLdeError → Option Report

@@ -1,11 +1,13 @@
 // Why an extension table cannot be built, or rows not be extended. `specs/Refusals.antt` has each
 // case's number and values.
-ghost use Rattle.std.specs.Prelude.{◌≡◌};
+ghost use Rattle.std.specs.Prelude.{◌≡◌, Some};
 ghost use Rattle.skip_lde.specs.Refusals as table;
 ghost use Rattle.skip_lde.specs.declared.fault.CompressedLdeError.TheVariants.{Domain};
 
 use skip_dimensions::fault::SkipDomainError;
 use skip_dimensions::refusal::{Refusal, Values};
+use std::error::Error;
+use std::fmt;
 
 // Reasons an extension is not built, or rows are not extended.
 #[derive(Clone, Copy, PartialEq, Eq, Debug)]
@@ -64,6 +66,29 @@ impl Refusal for CompressedLdeError {
         }
     }
 }
+
+// The name of the cause, and each value after its own name.
+impl fmt::Display for CompressedLdeError {
+    ghost output = { λ e. Some (table.text_of e) };
+
+    fn fmt<W: fmt::Write>(&self, f: &mut fmt::Formatter<W>) -> fmt::Result {
+        match self {
+            CompressedLdeError::Domain(fault) => write!(f, "{fault}"),
+            CompressedLdeError::NotWholeRows { len } => write!(f, "NotWholeRows: len {len}"),
+            CompressedLdeError::TooManyRows { rows } => write!(f, "TooManyRows: rows {rows}"),
+            CompressedLdeError::BufferLenMismatch {
+                place,
+                expected,
+                actual,
+            } => write!(
+                f,
+                "BufferLenMismatch: place {place}, expected {expected}, actual {actual}"
+            ),
+        }
+    }
+}
+
+impl Error for CompressedLdeError {}
 
 impl From<SkipDomainError> for CompressedLdeError {
     ghost from_gives = { λ e r. r ≡ Domain e };

@@ -223,8 +223,8 @@ impl fmt::Display for Scratch {
 // One line for each part, indented.
 impl fmt::Display for Plan {
     fn fmt<W: fmt::Write>(&self, f: &mut fmt::Formatter<W>) -> fmt::Result {
-        let (rule, arity, degree) = (self.rule.text(), self.rule.arity(), self.rule.degree());
-        writeln!(f, "  rule {rule}: operands {arity}, degree {degree}")?;
+        let (arity, degree) = (self.rule.arity(), self.rule.degree());
+        writeln!(f, "  rule {}: operands {arity}, degree {degree}", self.rule)?;
         let (dimensions, skipped, transmitted) = (
             self.log_extended,
             self.size,

@@ -4,7 +4,6 @@ ghost use Rattle.measuring.specs.Checksum.{element_in};
 ghost use Rattle.skip_lde.specs.Tables.{Built, SumsEntriesOfRows};
 ghost use Rattle.skip_lde.specs.Rows.{transmitted, bytes_of_row};
 
-use anyhow::anyhow;
 use fields::tower::TowerLevel;
 use measuring::checksum::checksum;
 use measuring::generator::Generator;
@@ -18,14 +17,6 @@ const SEED: u64 = 2024;
 // Rows that one call extends.
 const ROWS: u32 = 4096;
 
-// The dimensions of a domain over F.
-fn dimensions_over<F: TowerLevel>(
-    log_size: usize,
-    log_extended: usize,
-) -> anyhow::Result<Dimensions> {
-    Dimensions::over::<F>(log_size, log_extended).map_err(|_| anyhow!("there is no such domain"))
-}
-
 // Room for the table of a domain.
 fn table_room<F: TowerLevel + Clone>(
     heap: Global,
@@ -38,7 +29,7 @@ fn table_room<F: TowerLevel + Clone>(
 fn build<F: TowerLevel>(dimensions: Dimensions, table: &mut [F]) -> anyhow::Result<CompressedLde<F>>
     ensures { OnOk result (Built F.Field.ops F.TowerLevel.level dimensions.log_size dimensions.log_extended table.new) }
 {
-    CompressedLde::from_dimensions(dimensions, table).map_err(|_| anyhow!("the table is refused"))
+    Ok(CompressedLde::from_dimensions(dimensions, table)?)
 }
 
 // A table, which a repetition builds `count` times.
@@ -86,13 +77,12 @@ impl<F: TowerLevel> Timed for Rows<F> {
     ghost sum = { λ s so_far. fold (element_in F.TowerLevel.level) so_far s.out.items };
 
     fn repeat(&mut self) -> anyhow::Result<()> {
-        self.lde
-            .extend_batch(
-                self.table.as_slice(),
-                self.rows.as_slice(),
-                self.out.as_mut_slice(),
-            )
-            .map_err(|_| anyhow!("the rows are refused"))
+        self.lde.extend_batch(
+            self.table.as_slice(),
+            self.rows.as_slice(),
+            self.out.as_mut_slice(),
+        )?;
+        Ok(())
     }
 
     fn checksum(&self, so_far: u64) -> u64 {
@@ -115,7 +105,7 @@ pub(crate) fn measure_table<F: TowerLevel + Clone>(
 ) -> anyhow::Result<()>
     requires { 0 < count }
 {
-    let dimensions = dimensions_over::<F>(log_size, log_extended)?;
+    let dimensions = Dimensions::over::<F>(log_size, log_extended)?;
     let mut tables = Tables {
         dimensions,
         table: table_room::<F>(rt.alloc(), dimensions)?,
@@ -132,7 +122,7 @@ pub(crate) fn measure_rows<F: TowerLevel + Clone>(
     log_extended: usize,
     repetitions: u32,
 ) -> anyhow::Result<()> {
-    let dimensions = dimensions_over::<F>(log_size, log_extended)?;
+    let dimensions = Dimensions::over::<F>(log_size, log_extended)?;
     let mut table = table_room::<F>(rt.alloc(), dimensions)?;
     let lde = build(dimensions, table.as_mut_slice())?;
     let count = ROWS as usize;

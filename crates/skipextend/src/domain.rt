@@ -24,7 +24,7 @@ impl<F: TowerLevel + Clone> Extension<F> {
         let dimensions = Dimensions::over::<F>(log_size, log_extended)?;
         let mut table = vec![in heap; F::zero(); dimensions.table_len()]?;
         let values = vec![in heap; F::zero(); dimensions.num_transmitted()]?;
-        let lde = CompressedLde::new(log_size, log_extended, table.as_mut_slice())?;
+        let lde = CompressedLde::from_dimensions(dimensions, table.as_mut_slice())?;
         Ok(Extension { lde, table, values })
     }
 }
@@ -39,11 +39,12 @@ impl<F: TowerLevel> Extension<F> {
 // The row that was extended last.
 impl<F: TowerLevel> fmt::Display for Extension<F> {
     fn fmt<W: fmt::Write>(&self, f: &mut fmt::Formatter<W>) -> fmt::Result {
-        for (i, x) in self.values.iter().enumerate() {
-            if i > 0 {
-                write!(f, " ")?;
-            }
-            write!(f, "{}", Hexadecimal(*x))?;
+        let Some((first, rest)) = self.values.as_slice().split_first() else {
+            return Ok(());
+        };
+        write!(f, "{}", Hexadecimal(*first))?;
+        for x in rest {
+            write!(f, " {}", Hexadecimal(*x))?;
         }
         Ok(())
     }

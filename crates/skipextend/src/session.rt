@@ -10,7 +10,7 @@ use std::io::Write;
 use words::packed::row_of;
 
 // How many domains were opened, rows extended, and either refused.
-#[derive(Clone, Copy)]
+#[derive(Clone, Copy, Default)]
 struct Tally {
     domains: u64,
     extended: u64,
@@ -41,16 +41,11 @@ pub struct Session<W> {
 
 impl<W: Write> Session<W> {
     pub fn new(heap: Global, out: W) -> Session<W> {
-        let tally = Tally {
-            domains: 0,
-            extended: 0,
-            refused: 0,
-        };
         Session {
             heap,
             out,
             open: None,
-            tally,
+            tally: Tally::default(),
         }
     }
 

@@ -22,7 +22,7 @@ type Response = Result<(), Unanswered>;
 
 impl Question<'_> {
     fn extra(&mut self) -> Response {
-        let degree = self.number().ok_or(Unanswered::Unknown)?;
+        let degree = self.number()?;
         match extra_dimensions(degree) {
             Some(extra) => write!(self.answer, "{extra}")?,
             None => write!(self.answer, "none")?,
@@ -78,12 +78,8 @@ impl Question<'_> {
         log_size: usize,
         log_extended: usize,
     ) -> Result<SkipDomain<F>, Unanswered> {
-        let len = if log_extended <= 16 {
-            1 << log_extended
-        } else {
-            0
-        };
-        let mut points = self.lent::<F>(len)?;
+        let dimensions = Dimensions::over::<F>(log_size, log_extended)?;
+        let mut points = self.lent::<F>(dimensions.extended_size())?;
         Ok(SkipDomain::new(log_size, log_extended, points.as_mut_slice())?)
     }
 
@@ -95,13 +91,8 @@ impl Question<'_> {
     }
 
     fn vanishing<F: TowerLevel + Clone>(&mut self) -> Response {
-        let (Some(log_size), Some(log_extended), Some(x)) = (
-            self.number(),
-            self.number(),
-            self.element::<F>(),
-        ) else {
-            return Err(Unanswered::Unknown);
-        };
+        let (log_size, log_extended) = (self.number()?, self.number()?);
+        let x = self.element::<F>()?;
         let value = self.domain::<F>(log_size, log_extended)?.vanishing(x);
         write!(self.answer, "{}", Hexadecimal(value))?;
         Ok(())

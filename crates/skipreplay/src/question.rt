@@ -90,26 +90,28 @@ pub(crate) struct Question<'a> {
 }
 
 impl Question<'_> {
-    pub(crate) fn number(&mut self) -> Option<usize> {
-        let word = self.words.next()?;
-        Some(decimal(word.as_bytes())? as usize)
+    // The next word.
+    fn word(&mut self) -> Result<&[u8], Unanswered> {
+        let word = self.words.next().ok_or(Unanswered::Unknown)?;
+        Ok(word.as_bytes())
+    }
+
+    pub(crate) fn number(&mut self) -> Result<usize, Unanswered> {
+        let number = decimal(self.word()?).ok_or(Unanswered::Unknown)?;
+        Ok(number as usize)
     }
 
     pub(crate) fn numbers(&mut self) -> Result<Numbers, Unanswered> {
-        let (Some(first), Some(second), Some(third)) = (self.number(), self.number(), self.number())
-        else {
-            return Err(Unanswered::Unknown);
-        };
         Ok(Numbers {
-            first,
-            second,
-            third,
+            first: self.number()?,
+            second: self.number()?,
+            third: self.number()?,
         })
     }
 
-    pub(crate) fn element<F: TowerLevel>(&mut self) -> Option<F> {
-        let word = self.words.next()?;
-        Some(F::from_number(u128::from(hexadecimal(word.as_bytes())?)))
+    pub(crate) fn element<F: TowerLevel>(&mut self) -> Result<F, Unanswered> {
+        let number = hexadecimal(self.word()?).ok_or(Unanswered::Unknown)?;
+        Ok(F::from_number(u128::from(number)))
     }
 
     // The elements that the other words write.

@@ -1,24 +1,9 @@
-use Rattle.std.proofs.Common.{◌≡◌, ℕ, ◌+◌, ◌*◌, ◌%◌, ◌^◌, get_or, sym, refl, ap, ◌∙◌, arith}
+use Rattle.std.proofs.Common.{◌≡◌, ◌+◌, ◌*◌, ◌%◌, ◌^◌, get_or, ap, ◌∙◌, arith}
 use lib.Count.{count_trailing_zeros}
 use Rattle.std.proofs.lemmas.Nat.{one_shl}
-use Rattle.algebra.specs.Sums.{bit_sum}
-use Rattle.algebra.proofs.BitSums.{bit_sum_zero}
 use Rattle.skip_lde.proofs.PeeledRows.{lowest, one_bit, peeled}
 use Rattle.skip_lde.proofs.table.peel_rows.Goals as goal
 use Rattle.skip_lde.proofs.table.peel_rows.Goals.{then-bit-v, else-bit-v}
-
-pub loop-v-init : goal.loop-v-init
-loop-v-init g c =
-    let o = g.F.Field.ops in
-    let n = c.args.n in
-    let xs = c.args.table.now in (
-      (λ u i h k.
-          let first : u ≡ 0 = omega arith in
-          let at : u * n + i ≡ i = ap (λ x. x * n + i) first ∙ omega arith in
-          let f : ℕ → g.row.F.Denot = λ j. get_or xs (2 ^ j * n + i) o.zero in
-          ap (λ p. get_or xs p o.zero) at ∙ c.requires.zeros i k ∙ sym (ap (bit_sum o 8 f) first ∙ bit_sum_zero g.met.F.Field.laws 8 f)),
-      λ p h. refl,
-    )
 
 pub loop-v-preserved : goal.loop-v-preserved
 loop-v-preserved g c =

@@ -3,9 +3,6 @@ use Rattle.std.proofs.lemmas.List.{get_or_read}
 use Rattle.skip_lde.proofs.Places.{columns_apart, bit_rows_apart, bit_row}
 use Rattle.skip_lde.proofs.table.write_column.Goals as goal
 
-pub entry_place-at-requires : goal.entry_place-at-requires
-entry_place-at-requires g c = let b = bit_row c.loop-j.j c.loop-j-test.true in (omega arith, c.requires.place, c.requires.table.1)
-
 pub loop-j-preserved : goal.loop-j-preserved
 loop-j-preserved g c =
     let z = g.F.Field.ops.zero in

@@ -7,13 +7,13 @@ pub returns-in_err-v : goal.returns-in_err-v
 returns-in_err-v g c =
     let o = g.Self.Field.ops in
     let l = g.Self.TowerLevel.level in
-    let e = c.from_residual.ensures ∙ cantor_none o l c.loop-i._i c.args.j c.loop-i-test.true (cantor_next o l _ c.loop-i._i None c.loop-i.invariant c.in_err-v.ensures.solution) in
+    let e = c.from_residual.ensures ∙ cantor_none o l c.loop.counter c.args.j c.loop-test.true (cantor_next o l _ c.loop.counter None c.loop.invariant c.in_err-v.ensures.solution) in
     record { element = e; within = ap is_some e ∙ g.met.Self.TowerLevel.tower.basis c.args.j }
 
 pub returns : goal.returns
 returns g c =
     let o = g.Self.Field.ops in
     let l = g.Self.TowerLevel.level in
-    let z : c.loop-i._i ≡ c.args.j = omega arith in
-    let e : Some c.loop-i.v ≡ cantor o l c.args.j = c.loop-i.invariant ∙ ap (cantor o l) z in
+    let z : c.loop.counter ≡ c.args.j = omega arith in
+    let e : Some c.loop.v ≡ cantor o l c.args.j = c.loop.invariant ∙ ap (cantor o l) z in
     record { element = e; within = ap is_some e ∙ g.met.Self.TowerLevel.tower.basis c.args.j }

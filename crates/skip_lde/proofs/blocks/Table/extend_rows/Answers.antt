@@ -1,7 +1,7 @@
-use Rattle.std.proofs.Common.{◌≡◌, ℕ, ◌+◌, ◌-◌, ◌*◌, ◌/◌, ◌≤◌, List, length, take, drop, ap, ◌∙◌, ap₂, arith, length-drop, length-take}
+use Rattle.std.proofs.Common.{◌≡◌, ℕ, ◌+◌, ◌-◌, ◌*◌, ◌≤◌, List, length, take, drop, ap, ◌∙◌, ap₂, arith, length-drop, length-take}
 use Rattle.skip_lde.specs.Rows.{packed_row}
 use Rattle.skip_lde.specs.Tables.{entries_sum}
-use Rattle.skip_lde.proofs.Writes.{row_written, row_within, row_among}
+use Rattle.skip_lde.proofs.Writes.{row_written}
 use Rattle.skip_lde.proofs.blocks.Table.extend_rows.Goals as goal
 
 -- a part of w places, from row r on
@@ -10,21 +10,6 @@ part xs at w r e = let d : at + w - at ≡ w = omega arith in ap₂ (λ x y. tak
 
 part_length : {X : Type 0} (xs : List X) (at w : ℕ) → at + w ≤ length xs → length (take (at + w - at) (drop at xs)) ≡ w
 part_length xs at w h = simp (length-take, length-drop) (omega arith)
-
-pub row_start-from-requires : goal.row_start-from-requires
-row_start-from-requires g c = row_within c.loop-r.r c.args.self.now.row_bytes (length c.args.rows.now) c.loop-r-test.true
-
-pub row_start-to-requires : goal.row_start-to-requires
-row_start-to-requires g c =
-    let m = row_among c.loop-r.r c.args.self.now.width (length c.args.rows.now / c.args.self.now.row_bytes) c.loop-r-test.true in
-    omega arith
-
-pub extend_row-requires : goal.extend_row-requires
-extend_row-requires g c =
-    record {
-      row = part_length c.args.rows.now c.row_start-from.result c.args.self.now.row_bytes c.row_start-from.ensures.1;
-      out = part_length c.loop-r.out c.row_start-to.result c.args.self.now.width c.row_start-to.ensures.1;
-    }
 
 pub loop-r-preserved : goal.loop-r-preserved
 loop-r-preserved g c =
