@@ -13,7 +13,7 @@ use std::fmt;
 
 // Its extension, the table, and the row that was extended last.
 #[derive(Drop)]
-pub struct Extension<F> {
+pub(crate) struct Extension<F> {
     lde: CompressedLde<F>,
     table: Vec<F>,
     values: Vec<F>,
@@ -52,7 +52,7 @@ impl<F: TowerLevel> fmt::Display for Extension<F> {
 
 // The domain that is open, by its field.
 #[derive(Drop)]
-pub enum Open {
+pub(crate) enum Open {
     Byte(Extension<Byte>),
     Bits16(Extension<Pair16>),
     Bits32(Extension<Pair32>),
@@ -61,7 +61,7 @@ pub enum Open {
 
 impl Open {
     // Opens a domain, or says why there is none.
-    pub fn new(heap: Global, domain: Domain) -> Result<Open, Fault> {
+    pub(crate) fn new(heap: Global, domain: Domain) -> Result<Open, Fault> {
         let log_size = domain.log_size as usize;
         let log_extended = domain.log_extended as usize;
         Ok(match domain.field {
@@ -73,7 +73,7 @@ impl Open {
     }
 
     // Extends a row to the transmitted points.
-    pub fn extend(&mut self, row: &[u8]) -> Result<(), CompressedLdeError> {
+    pub(crate) fn extend(&mut self, row: &[u8]) -> Result<(), CompressedLdeError> {
         match self {
             Open::Byte(extension) => extension.extend(row),
             Open::Bits16(extension) => extension.extend(row),

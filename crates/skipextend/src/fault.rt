@@ -6,7 +6,7 @@ use std::io;
 
 // What is wrong with a line, a refusal of what it asks for, or a want of the system, which ends the program.
 #[derive(Drop)]
-pub enum Fault {
+pub(crate) enum Fault {
     UnknownLine,
     NotARow,
     NoDomain,

@@ -32,7 +32,7 @@ impl fmt::Display for Tally {
 }
 
 #[derive(Drop)]
-pub struct Session<W> {
+pub(crate) struct Session<W> {
     heap: Global,
     out: W,
     open: Option<Open>,
@@ -40,7 +40,7 @@ pub struct Session<W> {
 }
 
 impl<W: Write> Session<W> {
-    pub fn new(heap: Global, out: W) -> Session<W> {
+    pub(crate) fn new(heap: Global, out: W) -> Session<W> {
         Session {
             heap,
             out,
@@ -50,7 +50,7 @@ impl<W: Write> Session<W> {
     }
 
     // Answers a line, or says what is wrong with it.
-    pub fn answer(&mut self, number: u64, line: Line<'_>) -> anyhow::Result<()> {
+    pub(crate) fn answer(&mut self, number: u64, line: Line<'_>) -> anyhow::Result<()> {
         let outcome = match line {
             Line::Passed => Ok(()),
             Line::Unreadable => Err(Fault::UnknownLine),
@@ -105,7 +105,7 @@ impl<W: Write> Session<W> {
     }
 
     // Prints what became of the lines.
-    pub fn finish(mut self) -> anyhow::Result<()>
+    pub(crate) fn finish(mut self) -> anyhow::Result<()>
     where
         W: Drop,
     {
