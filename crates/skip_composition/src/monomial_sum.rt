@@ -1,15 +1,12 @@
 // Sums of monomials, each with the coefficient one.
 ghost use Rattle.std.specs.Prelude.{◌≡◌};
 ghost use Rattle.skip_composition.specs.Declarations.{declared_by};
-ghost use Rattle.skip_composition.specs.MonomialSumsLemmas.{declares_ones};
 ghost use Rattle.skip_composition.specs.Polynomials.{Monomials, operands, value, with_ones};
 
-use crate::composition::Composition;
-use fields::extension::ExtensionField;
 use fields::field::Field;
 
 // A polynomial whose coefficients are all one, so that it is given by its monomials and computed
-// alike over every field.
+// alike over every field. A type that is one gives its `Composition` from it.
 pub trait MonomialSum {
     ghost monomials: { Self → Monomials };
 
@@ -24,25 +21,4 @@ pub trait MonomialSum {
     // The value over any field; a missing operand reads as zero.
     fn value<E: Field>(&self, values: &[E]) -> E
         ensures { result ≡ value E.Field.ops (with_ones E.Field.ops (monomials self.now)) (operands E.Field.ops values.now) };
-}
-
-impl<F: Field, S: MonomialSum> Composition<F> for S {
-    ghost polynomial = { λ s. with_ones F.Field.ops (S.MonomialSum.monomials s) };
-
-    ghost declared = { λ s. declared_by (S.MonomialSum.monomials s) };
-
-    ghost declares = { λ s. declares_ones F.Field.ops (S.MonomialSum.monomials s) };
-
-    fn arity(&self) -> u16 {
-        MonomialSum::arity(self)
-    }
-
-    fn degree(&self) -> u16 {
-        MonomialSum::degree(self)
-    }
-
-    #[tactic(auto, using(crate::proofs::Values::ones_embed))]
-    fn eval_extension<EF: ExtensionField<F, D>, D>(&self, values: &[EF]) -> EF {
-        self.value(values)
-    }
 }

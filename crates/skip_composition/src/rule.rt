@@ -1,6 +1,9 @@
 // The matching rules by their codes.
 ghost use Rattle.std.specs.Prelude.{◌≡◌, Some};
 ghost use Rattle.std.specs.Option.{ok_or};
+ghost use Rattle.skip_composition.specs.Declarations.{declared_by};
+ghost use Rattle.skip_composition.specs.MonomialSumsLemmas.{declares_ones};
+ghost use Rattle.skip_composition.specs.Polynomials.{with_ones};
 ghost use Rattle.skip_composition.specs.Rules.{coded, arity_of, degree_of, text_of, unknown_text};
 ghost use Rattle.skip_composition.specs.Rules.{monomials as monomials_of};
 
@@ -9,6 +12,7 @@ use crate::conjunction::Conjunction;
 use crate::gate::{Gate, one_more};
 use crate::monomial_sum::MonomialSum;
 use crate::operand::operand;
+use fields::extension::ExtensionField;
 use fields::field::Field;
 use std::error::Error;
 use std::fmt;
@@ -131,5 +135,26 @@ impl MonomialSum for Rule {
             Rule::Conjunction => Conjunction.value(values),
             Rule::StopChain => Gate { inner: Conjunction }.eval_base(values),
         }
+    }
+}
+
+impl<F: Field> Composition<F> for Rule {
+    ghost polynomial = { λ r. with_ones F.Field.ops (monomials_of r) };
+
+    ghost declared = { λ r. declared_by (monomials_of r) };
+
+    ghost declares = { λ r. declares_ones F.Field.ops (monomials_of r) };
+
+    fn arity(&self) -> u16 {
+        MonomialSum::arity(self)
+    }
+
+    fn degree(&self) -> u16 {
+        MonomialSum::degree(self)
+    }
+
+    #[tactic(auto, using(crate::proofs::Values::ones_embed))]
+    fn eval_extension<EF: ExtensionField<F, D>, D>(&self, values: &[EF]) -> EF {
+        self.value(values)
     }
 }
