@@ -21,15 +21,15 @@ use skip_dimensions::fault::{SkipDomainError, check_length};
 use std::alloc::AllocError;
 use std::marker::PhantomData;
 
-// The numbers of a domain over F, which has a basis element for each dimension, so that its points
-// are different. The points themselves stand in buffers that the caller lends.
-pub struct SkipDomain<F: TowerLevel> {
+// The numbers of a domain over F, which has room for its points. The points themselves stand in
+// buffers that the caller lends.
+pub struct SkipDomain<F> {
     dimensions: Dimensions,
     field: PhantomData<F>,
-    ghost within: { dimensions.log_extended ≤ width F.TowerLevel.level },
+    ghost room: { Room F (2 ^ dimensions.log_extended) },
 }
 
-impl<F: TowerLevel> Clone for SkipDomain<F> {
+impl<F> Clone for SkipDomain<F> {
     ghost is_clone = { λ d c. c ≡ d };
 
     ghost is_infallible = { λ _. ⊤ };
@@ -39,7 +39,7 @@ impl<F: TowerLevel> Clone for SkipDomain<F> {
     }
 }
 
-impl<F: TowerLevel> Copy for SkipDomain<F> {}
+impl<F> Copy for SkipDomain<F> {}
 
 impl<F: TowerLevel> SkipDomain<F> {
     // The domain of these dimensions, whose points are written into the buffer; a buffer of another
