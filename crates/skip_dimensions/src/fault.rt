@@ -1,9 +1,10 @@
 // Why a domain cannot be built or a buffer be used. `specs/Refusals.antt` has each case's number and values.
-ghost use Rattle.std.specs.Prelude.{Some};
+ghost use Rattle.std.specs.Prelude.{◌≡◌, Some, OnOk};
 ghost use Rattle.skip_dimensions.specs.Refusals as table;
+ghost use Rattle.skip_dimensions.specs.Refusals.{reported, wrong_length};
 
-use crate::refusal::Refusal;
-pub use crate::refusal::{Values, check_length};
+pub use crate::refusal::Values;
+use crate::refusal::{self, Refusal};
 use std::error::Error;
 use std::fmt;
 
@@ -121,3 +122,11 @@ impl fmt::Display for SkipDomainError {
 }
 
 impl Error for SkipDomainError {}
+
+// Refuses a buffer whose length is not the one that is wanted at its place.
+pub fn check_length(place: u8, expected: usize, actual: usize) -> Result<(), SkipDomainError>
+    ensures refused { reported result ≡ wrong_length place expected actual }
+    ensures length { OnOk result (actual ≡ expected) }
+{
+    refusal::check_length(place, expected, actual)
+}

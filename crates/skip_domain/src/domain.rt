@@ -21,15 +21,15 @@ use skip_dimensions::fault::{SkipDomainError, check_length};
 use std::alloc::AllocError;
 use std::marker::PhantomData;
 
-// The numbers of a domain over F, which has a basis element for each dimension, so that its points
-// are different. The points themselves stand in buffers that the caller lends.
-pub struct SkipDomain<F: TowerLevel> {
+// The numbers of a domain over F, which has room for its points. The points themselves stand in
+// buffers that the caller lends.
+pub struct SkipDomain<F> {
     dimensions: Dimensions,
     field: PhantomData<F>,
-    ghost within: { dimensions.log_extended ≤ width F.TowerLevel.level },
+    ghost room: { Room F (2 ^ dimensions.log_extended) },
 }
 
-impl<F: TowerLevel> Clone for SkipDomain<F> {
+impl<F> Clone for SkipDomain<F> {
     ghost is_clone = { λ d c. c ≡ d };
 
     ghost is_infallible = { λ _. ⊤ };
@@ -39,7 +39,7 @@ impl<F: TowerLevel> Clone for SkipDomain<F> {
     }
 }
 
-impl<F: TowerLevel> Copy for SkipDomain<F> {}
+impl<F> Copy for SkipDomain<F> {}
 
 impl<F: TowerLevel> SkipDomain<F> {
     // The domain of these dimensions, whose points are written into the buffer; a buffer of another
@@ -51,7 +51,7 @@ impl<F: TowerLevel> SkipDomain<F> {
         ensures points { MatchResult result (λ _. points.new ≡ points_of F.Field.ops F.TowerLevel.level dimensions.log_extended) (λ _. points.new ≡ points.old) }
         ensures different { IfOk result (λ d. Apart (2 ^ d.dimensions.log_extended) (cantor_point F.Field.ops F.TowerLevel.level)) }
     {
-        check_length::<SkipDomainError>(1, dimensions.extended_size(), points.len())?;
+        check_length(1, dimensions.extended_size(), points.len())?;
         fill_points(dimensions.log_extended, points);
         Ok(SkipDomain {
             dimensions,
@@ -154,7 +154,7 @@ impl<F: TowerLevel> SkipDomain<F> {
         ensures refused { reported result ≡ wrong_length 1 (2 ^ self.now.dimensions.log_extended) (length points.now) }
         ensures part { IfOk result (λ s. s.now ≡ take (2 ^ self.now.dimensions.log_size) points.now) }
     {
-        check_length::<SkipDomainError>(1, self.dimensions.extended_size(), points.len())?;
+        check_length(1, self.dimensions.extended_size(), points.len())?;
         let (subspace, _) = points.split_at(self.size());
         Ok(subspace)
     }
@@ -164,7 +164,7 @@ impl<F: TowerLevel> SkipDomain<F> {
         ensures refused { reported result ≡ wrong_length 1 (2 ^ self.now.dimensions.log_extended) (length points.now) }
         ensures part { IfOk result (λ s. s.now ≡ drop (2 ^ self.now.dimensions.log_size) points.now) }
     {
-        check_length::<SkipDomainError>(1, self.dimensions.extended_size(), points.len())?;
+        check_length(1, self.dimensions.extended_size(), points.len())?;
         let (_, transmitted) = points.split_at(self.size());
         Ok(transmitted)
     }
@@ -185,7 +185,7 @@ impl<F: TowerLevel> SkipDomain<F> {
         ensures refused { reported result ≡ wrong_length 4 (2 ^ self.now.dimensions.log_extended - 2 ^ self.now.dimensions.log_size) (length output.old) }
         ensures output { MatchResult result (λ _. output.new ≡ transmitted_vanishing F.Field.ops F.TowerLevel.level self.now.dimensions.log_size self.now.dimensions.log_extended) (λ _. output.new ≡ output.old) }
     {
-        check_length::<SkipDomainError>(4, self.num_transmitted(), output.len())?;
+        check_length(4, self.num_transmitted(), output.len())?;
         let size = self.size();
         for block in 0..output.len() / size {
             let value = self.vanishing(Self::point((block + 1) * size));

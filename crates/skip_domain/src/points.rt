@@ -1,6 +1,5 @@
 // The points of a domain, built into a buffer.
 ghost use Rattle.std.specs.Prelude.{◌≡◌, ℕ, ◌+◌, ◌^◌, ◌<◌, ◌≤◌, length, slice_index_or};
-ghost use Rattle.fields.specs.Tower.{width};
 ghost use Rattle.skip_domain.specs.Domains.{points_of};
 
 use algebra::basis::basis_or_zero;
@@ -25,7 +24,6 @@ fn double_points<F: Field>(buffer: &mut [F], half: usize, step: F)
 // doubles the 2^r points of the dimensions below it by element r of the basis.
 pub(crate) fn fill_points<F: TowerLevel>(log_extended: usize, buffer: &mut [F])
     requires fits { log_extended < 64 }
-    requires within { log_extended ≤ width F.TowerLevel.level }
     requires length { length buffer.old ≡ 2 ^ log_extended }
     ensures { buffer.new ≡ points_of F.Field.ops F.TowerLevel.level log_extended }
 {

@@ -20,7 +20,7 @@ double_points-requires g c =
 
 pub loop-r-preserved : goal.loop-r-preserved
 loop-r-preserved g c =
-    points_double g.met.F.Field.laws g.met.F.TowerLevel.tower c.loop-r.r _ _ _ _ (omega (arith, c.requires.within)) (shifted_one c.loop-r.r (omega (arith, c.requires.fits)))
+    points_double g.met.F.Field.laws g.met.F.TowerLevel.tower c.loop-r.r _ _ _ _ (shifted_one c.loop-r.r (omega (arith, c.requires.fits)))
     c.basis_or_zero.ensures c.loop-r.invariant c.double_points.ensures.kept c.double_points.ensures.shifted
 
 pub returns : goal.returns
