@@ -36,10 +36,10 @@ module _ {b : LineBuffer} {l : List ℕ} (m : Makes b l) where
   pub class : (k : Content) → b.content ≡ k → eqb (get_or l 0 0) 35 ≡ false → class_of k l ≡ classified l
   class k e other = ap (λ x. class_of x l) (sym e ∙ m.is) ∙ sorted_class _ (every space l) (is_readable l) l other
 
-  pub whole : b.content ≡ Readable → b.bytes.items ≡ l
+  pub whole : b.content ≡ Readable → b.bytes ≡ l
   whole e =
       let fits : is_readable l ≡ true = sorted_readable _ _ (sym e ∙ m.is) in
       m.front ∙ take_all 16384 l (leb-true (length l) 16384 (and_parts (every printable l) (leb (length l) 16384) fits).1)
 
-  pub first : get_or b.bytes.items 0 0 ≡ get_or l 0 0
+  pub first : get_or b.bytes 0 0 ≡ get_or l 0 0
   first = ap (λ t. get_or t 0 0) m.front ∙ get_or-take 16384 l 0 0 (omega arith)

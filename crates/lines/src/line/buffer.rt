@@ -5,8 +5,8 @@ ghost use Rattle.words.specs.Pieces.{some};
 ghost use Rattle.lines.specs.Lines.{classified, without_cr, before_lf, through_lf, is_lf, printable, EndsLine};
 ghost use Rattle.lines.specs.Buffers.{shown, content_of, Makes, Holds};
 
+use super::kept::Kept;
 use super::{Content, LINE_LIMIT, Line, LineBuffer};
-use arrayvec::ArrayVec;
 
 // Whether a text goes on with `byte` after the `kept` bytes of it that were kept.
 fn fits(byte: u8, kept: usize) -> bool
@@ -46,7 +46,7 @@ impl LineBuffer {
         ensures { Holds result [] }
     {
         LineBuffer {
-            bytes: ArrayVec::new(),
+            bytes: Kept::new(),
             content: Content::Blank,
             held: false,
         }
@@ -58,7 +58,7 @@ impl LineBuffer {
         ensures held { self.new.held ≡ self.old.held }
     {
         self.content = self.content.with_byte(byte, self.bytes.len());
-        let _ = self.bytes.try_push(byte);
+        self.bytes.push(byte);
     }
 
     // The carriage return that waits, if one does, belongs to the line.
@@ -103,7 +103,7 @@ impl LineBuffer {
     fn has_bytes(&self) -> bool
         ensures { (l : List ℕ) → Holds self.now l → result ≡ some l }
     {
-        !self.bytes.is_empty() || self.held
+        self.bytes.len() > 0 || self.held
     }
 
     // The input ends here, with no line feed, so a carriage return at its end is kept. Answers whether

@@ -16,8 +16,8 @@ returns-in-Blank c = record {
 
 pub returns-in-Readable : goal.returns-in-Readable
 returns-in-Readable c = record {
-  makes = λ l m. ap text_of (c.as_slice.ensures.value ∙ whole m c.in-Readable.is) ∙ class m Readable c.in-Readable.is (sym (c.if-is_comment.ensures l m));
-  holds = λ l h. ap text_of (c.as_slice.ensures.value ∙ whole h.body c.in-Readable.is) ∙ class h.body Readable c.in-Readable.is (sym (c.if-is_comment.ensures _ h.body));
+  makes = λ l m. ap text_of (c.as_slice.ensures ∙ whole m c.in-Readable.is) ∙ class m Readable c.in-Readable.is (sym (c.if-is_comment.ensures l m));
+  holds = λ l h. ap text_of (c.as_slice.ensures ∙ whole h.body c.in-Readable.is) ∙ class h.body Readable c.in-Readable.is (sym (c.if-is_comment.ensures _ h.body));
 }
 
 pub returns-in-Unfit : goal.returns-in-Unfit
