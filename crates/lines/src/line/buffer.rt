@@ -1,8 +1,7 @@
 // How a line is put together byte by byte.
 ghost use Rattle.std.specs.Prelude.{◌≡◌, ℕ, false, min, List, [], ◌∷◌, ◌++◌, ◌&&◌, ◌==◌, length, nat_lt, slice_index};
-ghost use Rattle.std.specs.List.{position};
 ghost use Rattle.words.specs.Pieces.{some};
-ghost use Rattle.lines.specs.Lines.{classified, without_cr, before_lf, through_lf, is_lf, printable, EndsLine};
+ghost use Rattle.lines.specs.Lines.{classified, idle, without_cr, before_lf, through_lf, printable, EndsLine};
 ghost use Rattle.lines.specs.Buffers.{shown, content_of, Makes, Holds};
 
 use super::kept::Kept;
@@ -13,13 +12,6 @@ fn fits(byte: u8, kept: usize) -> bool
     ensures { result ≡ (printable byte && nat_lt kept 16384) }
 {
     matches!(byte, b' '..=b'~') && kept < LINE_LIMIT
-}
-
-// Where the first line feed of `input` stands.
-fn line_feed(input: &[u8]) -> Option<usize>
-    ensures { result ≡ position is_lf input.now }
-{
-    input.iter().position(|byte| *byte == b'\n')
 }
 
 impl Content {
@@ -91,12 +83,13 @@ impl LineBuffer {
         ensures holds { (l : List ℕ) → Holds self.old l → Holds self.new (l ++ before_lf input.now) }
         ensures lines { EndsLine input.now result }
     {
-        let end = line_feed(input);
-        let (line, _) = input.split_at(end.unwrap_or(input.len()));
-        for byte in line {
+        for (i, byte) in input.iter().enumerate() {
+            if *byte == b'\n' {
+                return Some(i + 1);
+            }
             self.push(*byte);
         }
-        end.map(|end| end + 1)
+        None
     }
 
     // Whether a byte of the line came.
@@ -133,12 +126,19 @@ impl LineBuffer {
         matches!(self.bytes.as_slice(), [b'#', ..])
     }
 
+    // Whether the line begins with `#` or has nothing but spaces.
+    fn is_idle(&self) -> bool
+        ensures { (l : List ℕ) → Makes self.now l → result ≡ idle l }
+    {
+        matches!(self.content, Content::Blank) || self.is_comment()
+    }
+
     // The line, if it ends here.
     pub fn line(&self) -> Line<'_>
         ensures makes { (l : List ℕ) → Makes self.now l → shown result ≡ classified l }
         ensures holds { (l : List ℕ) → Holds self.now l → shown result ≡ classified (without_cr l) }
     {
-        if self.is_comment() {
+        if self.is_idle() {
             return Line::Passed;
         }
         match self.content {
