@@ -2,7 +2,7 @@
 use Rattle.std.proofs.Common.{◌≡◌, ℕ, ◌+◌, ◌<◌, ◌≤◌, true, eqb, List, [], ◌∷◌, ◌++◌, length, get_or, take, drop, Some, None, Option, sym, refl, ap, ◌∙◌, append_assoc, arith, take-append-drop}
 use Rattle.std.proofs.lemmas.List.{drop_more, take_all}
 use Rattle.std.proofs.lemmas.List.Quantifiers.{position-Some}
-use Rattle.std.proofs.lemmas.Bool.{and_parts, not-true, eqb-true, cond-false}
+use Rattle.std.proofs.lemmas.Bool.{and_parts, not-true, lt-ltb, le-ltb, eqb-true, cond-true, cond-false}
 use Rattle.std.specs.Option.{option_map, unwrap_or}
 use Rattle.std.specs.List.{position, position_or_len}
 use Rattle.words.specs.Pieces.{every, other, onto, pieces}
@@ -44,6 +44,18 @@ module _ (input : List ℕ) (place : Option ℕ) (is : place ≡ position is_lf 
 
   pub no_place : place ≡ None → lf_free input ≡ true
   no_place e = every_whole (other 10) input (omega (arith, sym (ap (λ o. unwrap_or o (length input)) e) ∙ place_or_len))
+
+-- the first line feed of the input stands after i bytes, or nowhere
+module _ (input : List ℕ) where
+  pub some_through : (i : ℕ) → i ≡ position_or_len is_lf input → i < length input → Some (i + 1) ≡ through_lf input
+  some_through i front h =
+      let found = lt-ltb (position_or_len is_lf input) (length input) (omega arith) in
+      ap (option_map (λ k. k + 1)) (ap Some front ∙ sym (cond-true _ (Some (position_or_len is_lf input)) None found))
+
+  pub none_through : length input ≤ position_or_len is_lf input → None ≡ through_lf input
+  none_through h =
+      let none = le-ltb (position_or_len is_lf input) (length input) h in
+      ap (option_map (λ k. k + 1)) (sym (cond-false _ (Some (position_or_len is_lf input)) None none))
 
 cut_front : (l : List ℕ) (i : ℕ) → Some i ≡ position is_lf l → l ≡ before_lf l ++ 10 ∷ drop (i + 1) l
 cut_front l i e =

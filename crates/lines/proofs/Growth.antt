@@ -1,9 +1,8 @@
 -- What a buffer knows of a line when one more byte comes.
-use Rattle.std.proofs.Common.{◌≡◌, ℕ, ◌+◌, ◌<◌, ◌≤◌, min, Bool, true, false, cond, ◌&&◌, eqb, ltb, leb, List, [], ◌∷◌, ◌++◌, length, take, Ok, Err, Result, IsOk, OnOk, OnErr, ◌↔◌, sym, refl, ap, ◌∙◌, arith, length-take}
+use Rattle.std.proofs.Common.{◌≡◌, ℕ, zero, suc, ◌+◌, ◌<◌, ◌≤◌, min, Bool, true, false, cond, ◌&&◌, eqb, ltb, leb, List, [], ◌∷◌, ◌++◌, length, take, Ok, Err, Result, IsOk, OnOk, OnErr, ◌↔◌, sym, refl, ap, ◌∙◌, arith, length-take}
 use Rattle.std.proofs.lemmas.List.{length_push, take_all, take-append-le}
 use Rattle.std.proofs.lemmas.Bool.{ltb-true, le-leb, eqb-true, ne_eqb, cond-false, and_parts, and_from}
 use Rattle.std.proofs.lemmas.Bool.Decides.{nat_tests}
-use Rattle.arrayvec.specs.ArrayVec.{ArrayVec, array_vec_len}
 use Rattle.lines.specs.declared.line.Content.{Content}
 use Rattle.lines.specs.declared.line.Content.TheVariants.{Blank, Readable, Unfit}
 use Rattle.words.specs.Pieces.{every}
@@ -22,17 +21,11 @@ pub every_push : (p : ℕ → Bool) (l : List ℕ) (b : ℕ) → every p (l ++ b
 every_push p [] b = and_true (p b)
 every_push p (x ∷ xs) b = ap (λ t. p x && t) (every_push p xs b) ∙ and_assoc (p x) (every p xs) (p b)
 
--- what a buffer keeps when one more byte comes, which it takes only where there is room
-pub front_push : {E : Type 0} (took : Result (Unit {0}) E) (old new : ArrayVec ℕ) (l : List ℕ) (b : ℕ) → old.items ≡ take 16384 l →
-    (IsOk took ↔ (array_vec_len old < 16384)) → OnOk took (new.items ≡ old.items ++ b ∷ []) → OnErr took (new ≡ old) → OnErr took (array_vec_len old ≡ 16384) →
-    new.items ≡ take 16384 (l ++ b ∷ [])
-front_push (Ok u) old new l b front room more same full =
-    let short : length l < 16384 = omega (arith, room.0 refl, ap length front, length-take 16384 l) in
-    let fits : length (l ++ b ∷ []) ≤ 16384 = omega (arith, length_push l b) in
-    more ∙ ap (λ t. t ++ b ∷ []) (front ∙ take_all 16384 l (omega arith)) ∙ sym (take_all 16384 (l ++ b ∷ []) fits)
-front_push (Err e) old new l b front room more same full =
-    let long : 16384 ≤ length l = omega (arith, full, ap length front, length-take 16384 l) in
-    ap (λ v. v.items) same ∙ front ∙ sym (take-append-le 16384 l (b ∷ []) long)
+-- what a buffer keeps when one more byte comes
+pub front_push : (n : ℕ) (l : List ℕ) (b : ℕ) → take n (take n l ++ b ∷ []) ≡ take n (l ++ b ∷ [])
+front_push zero l b = refl
+front_push (suc n) [] b = refl
+front_push (suc n) (x ∷ xs) b = ap (λ t. x ∷ t) (front_push n xs b)
 
 room : (e l p k : Bool) → (k ≡ true → l ≡ true) → ((e && l) && (p && k)) ≡ ((e && p) && k)
 room true true p k h = refl

@@ -19,7 +19,7 @@ content_of l = cond (every space l) Blank (cond (is_readable l) Readable Unfit)
 
 -- the line that b gives has the bytes l
 pub record Makes (b : LineBuffer) (l : List ℕ) : Type 0 where
-  pub front : b.bytes.items ≡ take 16384 l
+  pub front : b.bytes ≡ take 16384 l
   pub is : b.content ≡ content_of l
 
 -- b has taken the bytes l of a line that may go on: a carriage return at their end waits for the byte after it

@@ -3,9 +3,12 @@
 // A line ends at a line feed or at the end of the input. One carriage return right before the line
 // feed is dropped. What is left is passed over if it begins with `#` or has nothing but spaces;
 // otherwise it is unreadable if it is longer than LINE_LIMIT or has a byte outside printable ASCII.
-use arrayvec::ArrayVec;
+ghost use Rattle.std.specs.Prelude.{◌≤◌, length};
+
+use kept::Kept;
 
 mod buffer;
+mod kept;
 
 // The most bytes that a text has.
 pub const LINE_LIMIT: usize = 16384;
@@ -32,8 +35,9 @@ enum Content {
 #[derive(Drop)]
 pub struct LineBuffer {
     // its first LINE_LIMIT bytes
-    bytes: ArrayVec<u8, LINE_LIMIT>,
+    bytes: Kept,
     content: Content,
     // a carriage return came last, and belongs to the line only if no line feed follows
     held: bool,
+    ghost within: { length bytes ≤ 16384 },
 }

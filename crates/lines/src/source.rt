@@ -1,5 +1,5 @@
 // Lines of the standard input, one at a time, read by chunks of a fixed size.
-ghost use Rattle.std.specs.Prelude.{◌≡◌};
+ghost use Rattle.std.specs.Prelude.{◌≡◌, ◌≤◌, length};
 
 use crate::line::LineBuffer;
 use chunk::Chunk;
@@ -15,6 +15,7 @@ pub struct LineSource {
     ended: bool,
     buffer: LineBuffer,
     number: u64,
+    ghost within: { length chunk ≤ 32768 },
 }
 
 impl LineSource {

@@ -1,25 +1,17 @@
 // How a line is put together byte by byte.
 ghost use Rattle.std.specs.Prelude.{◌≡◌, ℕ, false, min, List, [], ◌∷◌, ◌++◌, ◌&&◌, ◌==◌, length, nat_lt, slice_index};
-ghost use Rattle.std.specs.List.{position};
 ghost use Rattle.words.specs.Pieces.{some};
-ghost use Rattle.lines.specs.Lines.{classified, without_cr, before_lf, through_lf, is_lf, printable, EndsLine};
+ghost use Rattle.lines.specs.Lines.{classified, idle, without_cr, before_lf, through_lf, printable, EndsLine};
 ghost use Rattle.lines.specs.Buffers.{shown, content_of, Makes, Holds};
 
+use super::kept::Kept;
 use super::{Content, LINE_LIMIT, Line, LineBuffer};
-use arrayvec::ArrayVec;
 
 // Whether a text goes on with `byte` after the `kept` bytes of it that were kept.
 fn fits(byte: u8, kept: usize) -> bool
     ensures { result ≡ (printable byte && nat_lt kept 16384) }
 {
     matches!(byte, b' '..=b'~') && kept < LINE_LIMIT
-}
-
-// Where the first line feed of `input` stands.
-fn line_feed(input: &[u8]) -> Option<usize>
-    ensures { result ≡ position is_lf input.now }
-{
-    input.iter().position(|byte| *byte == b'\n')
 }
 
 impl Content {
@@ -46,7 +38,7 @@ impl LineBuffer {
         ensures { Holds result [] }
     {
         LineBuffer {
-            bytes: ArrayVec::new(),
+            bytes: Kept::new(),
             content: Content::Blank,
             held: false,
         }
@@ -58,7 +50,7 @@ impl LineBuffer {
         ensures held { self.new.held ≡ self.old.held }
     {
         self.content = self.content.with_byte(byte, self.bytes.len());
-        let _ = self.bytes.try_push(byte);
+        self.bytes.push(byte);
     }
 
     // The carriage return that waits, if one does, belongs to the line.
@@ -91,19 +83,20 @@ impl LineBuffer {
         ensures holds { (l : List ℕ) → Holds self.old l → Holds self.new (l ++ before_lf input.now) }
         ensures lines { EndsLine input.now result }
     {
-        let end = line_feed(input);
-        let (line, _) = input.split_at(end.unwrap_or(input.len()));
-        for byte in line {
+        for (i, byte) in input.iter().enumerate() {
+            if *byte == b'\n' {
+                return Some(i + 1);
+            }
             self.push(*byte);
         }
-        end.map(|end| end + 1)
+        None
     }
 
     // Whether a byte of the line came.
     fn has_bytes(&self) -> bool
         ensures { (l : List ℕ) → Holds self.now l → result ≡ some l }
     {
-        !self.bytes.is_empty() || self.held
+        self.bytes.len() > 0 || self.held
     }
 
     // The input ends here, with no line feed, so a carriage return at its end is kept. Answers whether
@@ -133,12 +126,19 @@ impl LineBuffer {
         matches!(self.bytes.as_slice(), [b'#', ..])
     }
 
+    // Whether the line begins with `#` or has nothing but spaces.
+    fn is_idle(&self) -> bool
+        ensures { (l : List ℕ) → Makes self.now l → result ≡ idle l }
+    {
+        matches!(self.content, Content::Blank) || self.is_comment()
+    }
+
     // The line, if it ends here.
     pub fn line(&self) -> Line<'_>
         ensures makes { (l : List ℕ) → Makes self.now l → shown result ≡ classified l }
         ensures holds { (l : List ℕ) → Holds self.now l → shown result ≡ classified (without_cr l) }
     {
-        if self.is_comment() {
+        if self.is_idle() {
             return Line::Passed;
         }
         match self.content {

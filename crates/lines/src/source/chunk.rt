@@ -56,7 +56,8 @@ impl Chunk {
 
     // Reads the next bytes of the standard input in their place, and says how many came.
     pub(super) fn fill(&mut self, rt: &HostRuntime) -> io::Result<usize>
-        ensures { IfOk result (λ count. count ≡ length self.new) }
+        ensures read { IfOk result (λ count. count ≡ length self.new) }
+        ensures fits { length self.new ≤ 32768 }
     {
         let count = rt.stdin().read(&mut self.bytes)?;
         self.start = 0;

@@ -1,11 +1,12 @@
-use Rattle.std.proofs.Common.{ap, ◌∙◌, length, length-take}
+use Rattle.std.proofs.Common.{◌≤◌, ◌∷◌, ◌++◌, [], take, length, ap, ◌∙◌, arith, length-take}
 use Rattle.lines.proofs.Growth.{front_push}
 use Rattle.lines.proofs.line.LineBuffer.append.Goals as goal
 
+pub invariant_of-self : goal.invariant_of-self
+invariant_of-self c = record { within = omega (arith, ap length c.push.ensures, length-take 16384 (c.args.self.now.bytes ++ c.args.byte ∷ [])) }
+
 pub returns-clause-makes : goal.returns-clause-makes
-returns-clause-makes c = λ l m.
-    let pushed = c.try_push.ensures in
-    record {
-      front = front_push c.try_push.result c.args.self.now.bytes c.try_push.new.self l c.args.byte m.front pushed.variant pushed.ok pushed.err pushed.full;
-      is = c.with_byte-self.ensures l m.is (c.len.ensures.value ∙ ap length m.front ∙ length-take 16384 l);
-    }
+returns-clause-makes c = λ l m. record {
+  front = c.push.ensures ∙ ap (λ t. take 16384 (t ++ c.args.byte ∷ [])) m.front ∙ front_push 16384 l c.args.byte;
+  is = c.with_byte-self.ensures l m.is (c.len.ensures ∙ ap length m.front ∙ length-take 16384 l);
+}

@@ -1,29 +1,49 @@
-use Rattle.std.proofs.Common.{◌≡◌, ◌++◌, take, sym, ap, ◌∙◌, subst, append_assoc, append-nil, rules}
-use Rattle.std.proofs.lemmas.List.{take_more, take_all}
-use Rattle.lines.specs.Lines.{through_lf, EndsLine}
+use Rattle.std.proofs.Common.{◌≡◌, ℕ, ◌+◌, ◌≤◌, not, List, ◌++◌, Some, None, length, take, sym, ap, ◌∙◌, subst, append_assoc, append-nil, arith}
+use Rattle.std.proofs.lemmas.List.{take_more}
+use Rattle.std.proofs.lemmas.List.Sums.{prefix_len-drop_yes, prefix_len-drop_no, prefix_len-drop_all}
+use Rattle.std.proofs.lemmas.Bool.{eq-eqb, ne_eqb}
+use Rattle.std.specs.List.{position_or_len}
+use Rattle.words.specs.Pieces.{other}
+use Rattle.lines.specs.Lines.{is_lf, through_lf, EndsLine}
 use Rattle.lines.specs.Buffers.{Holds}
-use Rattle.lines.proofs.Cuts.{place_or_len, ends_line}
+use Rattle.lines.proofs.Cuts.{some_through, none_through, ends_line}
 use Rattle.lines.proofs.line.LineBuffer.feed.Goals as goal
 
-pub loop-byte-init : goal.loop-byte-init
-loop-byte-init c = λ k h. subst (Holds c.args.self.now) (sym (append-nil k)) h
+pub loop-i-init : goal.loop-i-init
+loop-i-init c = (omega arith, λ k h. subst (Holds c.args.self.now) (sym (append-nil k)) h)
 
-pub loop-byte-preserved : goal.loop-byte-preserved
-loop-byte-preserved c = λ k h.
-    let line = c.split_at.result.0.now in
-    let i = c.loop-byte.byte-index in
-    subst (Holds c.push.new.self) (append_assoc k (take i line) _ ∙ sym (ap (λ t. k ++ t) (take_more line i 0 c.loop-byte-test.true))) (c.push.ensures _ (c.loop-byte.invariant k h))
-
-pub returns-clause-holds : goal.returns-clause-holds
-returns-clause-holds c = λ l h.
+pub loop-i-preserved : goal.loop-i-preserved
+loop-i-preserved c =
     let input = c.args.input.now in
-    let line = c.split_at.result.0.now in
-    subst (λ t. Holds c.loop-byte.self (l ++ t)) (
-    take_all _ line c.loop-byte-test.false ∙ c.split_at.ensures.front
-    ∙ ap (λ n. take n input) (c.unwrap_or.ensures ∙ place_or_len input _ c.line_feed-end.ensures)
-    ) (c.loop-byte.invariant l h)
+    let i = c.loop-i.i in
+    let within = c.loop-i-test.true in (
+      omega (arith, prefix_len-drop_yes (other 10) input i 0 within (ap not (ne_eqb _ 10 c.if-byte-eq10.false)), c.loop-i.invariant.0),
+      λ k h.
+          let one = append_assoc k (take i input) _ ∙ sym (ap (λ t. k ++ t) (take_more input i 0 within)) in
+          subst (Holds c.push.new.self) one (c.push.ensures _ (c.loop-i.invariant.1 k h)),
+    )
 
-pub returns-clause-lines : goal.returns-clause-lines
-returns-clause-lines c =
-    let taken : c.map.result ≡ through_lf c.args.input.now = search rules in
-    subst (EndsLine c.args.input.now) (sym taken) (ends_line c.args.input.now)
+pub returns-then-byte-eq10 : goal.returns-then-byte-eq10
+returns-then-byte-eq10 c =
+    let input = c.args.input.now in
+    let within = c.loop-i-test.true in
+    let front : c.loop-i.i ≡ position_or_len is_lf input =
+    omega (arith, prefix_len-drop_no (other 10) input c.loop-i.i 0 within (ap not (eq-eqb _ 10 c.if-byte-eq10.true)), c.loop-i.invariant.0) in
+    let taken = some_through input _ front within in
+    record {
+      taken = taken;
+      holds = λ l h. subst (λ n. Holds c.loop-i.self (l ++ take n input)) front (c.loop-i.invariant.1 l h);
+      lines = subst (EndsLine input) (sym taken) (ends_line input);
+    }
+
+pub returns : goal.returns
+returns c =
+    let input = c.args.input.now in
+    let all = c.loop-i-test.false in
+    let front : c.loop-i.i ≡ position_or_len is_lf input = omega (arith, prefix_len-drop_all (other 10) input c.loop-i.i all, c.loop-i.invariant.0) in
+    let taken = none_through input (omega (arith, front)) in
+    record {
+      taken = taken;
+      holds = λ l h. subst (λ n. Holds c.loop-i.self (l ++ take n input)) front (c.loop-i.invariant.1 l h);
+      lines = subst (EndsLine input) (sym taken) (ends_line input);
+    }
