@@ -2,7 +2,7 @@
 ghost use Rattle.std.specs.Prelude.{◌≡◌, ℕ, ◌-◌, ◌*◌, ◌^◌, ◌<◌, Some, IfOk, MatchResult};
 ghost use Rattle.skip_dimensions.specs.Degrees.{Fits};
 ghost use Rattle.skip_plan.specs.Plans.{Free, lengths_for, plan_for, scratch_for, outcome, planning};
-ghost use Rattle.skip_plan.specs.Texts.{shape_text, error_text, lengths_text, scratch_text};
+ghost use Rattle.skip_plan.specs.Texts.{shape_text, error_text, lengths_text, scratch_text, plan_text};
 ghost use Rattle.skip_composition.specs.Rules.{degree_of};
 ghost use Rattle.skip_plan.specs.declared.plan.PlanError.TheVariants.{Domain, UnknownRule};
 
@@ -222,6 +222,8 @@ impl fmt::Display for Scratch {
 
 // One line for each part, indented.
 impl fmt::Display for Plan {
+    ghost output = { λ p. Some (plan_text p) };
+
     fn fmt<W: fmt::Write>(&self, f: &mut fmt::Formatter<W>) -> fmt::Result {
         let (arity, degree) = (self.rule.arity(), self.rule.degree());
         writeln!(f, "  rule {}: operands {arity}, degree {degree}", self.rule)?;

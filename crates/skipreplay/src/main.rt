@@ -6,6 +6,7 @@
 mod calls;
 mod print;
 mod question;
+mod text;
 mod unanswered;
 
 use crate::question::answer_question;
@@ -58,18 +59,19 @@ impl<W: Write + Drop> Replay<W> {
     }
 
     // Takes a line: an expected answer, or a question.
-    fn take(&mut self, heap: Global, number: u64, line: Line) -> io::Result<()> {
+    fn take(&mut self, heap: Global, number: u64, line: Line) -> anyhow::Result<()> {
         match line {
-            Line::Passed => Ok(()),
-            Line::Unreadable => writeln!(self.out, "line {number}: unreadable"),
+            Line::Passed => {}
+            Line::Unreadable => writeln!(self.out, "line {number}: unreadable")?,
             Line::Text(text) => match expected(text) {
-                Some(wanted) => self.compare(number, wanted),
+                Some(wanted) => self.compare(number, wanted)?,
                 None => {
                     self.print_pending()?;
-                    answer_question(&mut self.pending, heap, text)
+                    answer_question(&mut self.pending, heap, text)?;
                 }
             },
         }
+        Ok(())
     }
 
     fn finish(&mut self) -> io::Result<()> {

@@ -1,13 +1,12 @@
 // A question: a field, a call and what the call is about, in words; and its answer as it is written.
 use crate::print::Refused;
+use crate::text::Words;
 use crate::unanswered::Unanswered;
 use fields::byte::Byte;
 use fields::tower::TowerLevel;
 use fields::{Pair16, Pair32, Pair64, Pile8};
 use std::alloc::{AllocError, Global};
 use std::io::Write;
-use std::str::SplitWhitespace;
-use std::{io, str};
 use words::numeral::{decimal, hexadecimal};
 use words::packed::row_of;
 
@@ -21,8 +20,8 @@ enum FieldName {
 }
 
 impl FieldName {
-    fn named(word: &str) -> Option<FieldName> {
-        match word.as_bytes() {
+    fn named(word: &[u8]) -> Option<FieldName> {
+        match word {
             b"8" => Some(FieldName::Byte),
             b"16" => Some(FieldName::Bits16),
             b"32" => Some(FieldName::Bits32),
@@ -50,8 +49,8 @@ pub(crate) enum Call {
 }
 
 impl Call {
-    fn named(word: &str) -> Option<Call> {
-        match word.as_bytes() {
+    fn named(word: &[u8]) -> Option<Call> {
+        match word {
             b"extra" => Some(Call::Extra),
             b"new" => Some(Call::New),
             b"degree" => Some(Call::Degree),
@@ -84,7 +83,7 @@ const LONGEST: usize = 1 << 24;
 // The words that are not read yet, and the answer so far.
 #[derive(Drop)]
 pub(crate) struct Question<'a> {
-    words: SplitWhitespace<'a>,
+    words: Words<'a>,
     pub(crate) answer: &'a mut Vec<u8>,
     heap: Global,
 }
@@ -92,8 +91,7 @@ pub(crate) struct Question<'a> {
 impl Question<'_> {
     // The next word.
     fn word(&mut self) -> Result<&[u8], Unanswered> {
-        let word = self.words.next().ok_or(Unanswered::Unknown)?;
-        Ok(word.as_bytes())
+        self.words.next().ok_or(Unanswered::Unknown)
     }
 
     pub(crate) fn number(&mut self) -> Result<usize, Unanswered> {
@@ -118,7 +116,7 @@ impl Question<'_> {
     pub(crate) fn elements<F: TowerLevel>(&mut self) -> Result<Vec<F>, Unanswered> {
         let mut values = Vec::new(self.heap);
         for word in self.words.by_ref() {
-            let number = hexadecimal(word.as_bytes()).ok_or(Unanswered::Unknown)?;
+            let number = hexadecimal(word).ok_or(Unanswered::Unknown)?;
             values.push(F::from_number(u128::from(number)))?;
         }
         Ok(values)
@@ -126,9 +124,11 @@ impl Question<'_> {
 
     // The packed bytes that digits write; `-` writes none.
     pub(crate) fn row(&mut self) -> Result<Vec<u8>, Unanswered> {
-        let word = self.words.next().ok_or(Unanswered::Unknown)?;
-        let digits = if word == "-" { "" } else { word };
-        row_of(self.heap, digits.as_bytes())?.ok_or(Unanswered::Unknown)
+        let digits = match self.words.next().ok_or(Unanswered::Unknown)? {
+            b"-" => &[],
+            digits => digits,
+        };
+        row_of(self.heap, digits)?.ok_or(Unanswered::Unknown)
     }
 
     // A buffer filled with the element of number a5a5a5a5, cut to the width.
@@ -153,19 +153,21 @@ impl Question<'_> {
 }
 
 // Answers a question into the buffer; a line that is no question gets `unknown`.
-pub(crate) fn answer_question(answer: &mut Vec<u8>, heap: Global, text: &[u8]) -> io::Result<()> {
-    let Ok(text) = str::from_utf8(text) else {
-        return write!(answer, "unknown");
-    };
+pub(crate) fn answer_question(
+    answer: &mut Vec<u8>,
+    heap: Global,
+    text: &[u8],
+) -> anyhow::Result<()> {
     let mut question = Question {
-        words: text.split_whitespace(),
+        words: Words(text),
         answer,
         heap,
     };
     match question.respond() {
-        Ok(()) => Ok(()),
-        Err(Unanswered::Unknown) => write!(question.answer, "unknown"),
-        Err(Unanswered::Refused(fault)) => write!(question.answer, "{}", Refused(fault)),
-        Err(Unanswered::Failed(error)) => Err(error),
+        Ok(()) => {}
+        Err(Unanswered::Unknown) => write!(question.answer, "unknown")?,
+        Err(Unanswered::Refused(fault)) => write!(question.answer, "{}", Refused(fault))?,
+        Err(Unanswered::Failed(error)) => return Err(error),
     }
+    Ok(())
 }

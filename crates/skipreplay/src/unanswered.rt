@@ -10,8 +10,8 @@ pub(crate) enum Unanswered {
     Unknown,
     // The call is refused.
     Refused(CompressedLdeError),
-    // Memory or the output fails.
-    Failed(io::Error),
+    // Memory or the output fails, which ends the program.
+    Failed(anyhow::Error),
 }
 
 impl From<SkipDomainError> for Unanswered {
@@ -28,18 +28,18 @@ impl From<CompressedLdeError> for Unanswered {
 
 impl From<AllocError> for Unanswered {
     fn from(error: AllocError) -> Unanswered {
-        Unanswered::Failed(io::Error::from(error))
+        Unanswered::Failed(anyhow::Error::from(error))
     }
 }
 
 impl<T: Drop> From<AllocFailed<T>> for Unanswered {
     fn from(error: AllocFailed<T>) -> Unanswered {
-        Unanswered::Failed(io::Error::from(error))
+        Unanswered::from(AllocError::from(error))
     }
 }
 
 impl From<io::Error> for Unanswered {
     fn from(error: io::Error) -> Unanswered {
-        Unanswered::Failed(error)
+        Unanswered::Failed(anyhow::Error::from(error))
     }
 }
