@@ -1,9 +1,13 @@
--- The digits of a number, one at a time.
-use Rattle.std.proofs.Common.{◌≡◌, ℕ, suc, ◌*◌, ◌/◌, ◌%◌, ◌^◌, false, List, ◌++◌, ap, ◌∙◌, arith}
-use Rattle.std.specs.Fmt.{digits}
-use Rattle.std.proofs.lemmas.Fmt.{hex_one_digit}
-use Rattle.std.proofs.lemmas.List.{append_assoc}
+-- The digits of a number are ASCII.
+use Rattle.std.proofs.Common.{ℕ, zero, suc, ◌<◌, false, arith}
+use Rattle.std.specs.Str.{IsAscii}
+use Rattle.std.specs.Fmt.{digit_glyph}
 use Rattle.fields.specs.Text.{low_digits}
 
-pub next_digit : (bs : List ℕ) (k n : ℕ) → (bs ++ digits 16 false (n / 2 ^ (4 * k) % 16)) ++ low_digits k n ≡ bs ++ low_digits (suc k) n
-next_digit bs k n = ap (λ d. (bs ++ d) ++ low_digits k n) (hex_one_digit false _ (omega arith)) ∙ append_assoc bs _ _
+pub glyph_IsAscii : (d : ℕ) → d < 16 → digit_glyph false d < 128
+glyph_IsAscii d h = grind arith
+
+pub IsAscii-low_digits : (k n : ℕ) → IsAscii (low_digits k n)
+IsAscii-low_digits zero n i = omega arith
+IsAscii-low_digits (suc k) n zero = glyph_IsAscii _ (omega arith)
+IsAscii-low_digits (suc k) n (suc i) = IsAscii-low_digits k n i
