@@ -167,7 +167,8 @@ pub(crate) fn answer_question(
         Ok(()) => {}
         Err(Unanswered::Unknown) => write!(question.answer, "unknown")?,
         Err(Unanswered::Refused(fault)) => write!(question.answer, "{}", Refused(fault))?,
-        Err(Unanswered::Failed(error)) => return Err(error),
+        Err(Unanswered::OutOfMemory(error)) => return Err(anyhow::Error::from(error)),
+        Err(Unanswered::Unwritten(error)) => return Err(anyhow::Error::from(error)),
     }
     Ok(())
 }

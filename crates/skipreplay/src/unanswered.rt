@@ -11,7 +11,8 @@ pub(crate) enum Unanswered {
     // The call is refused.
     Refused(CompressedLdeError),
     // Memory or the output fails, which ends the program.
-    Failed(anyhow::Error),
+    OutOfMemory(AllocError),
+    Unwritten(io::Error),
 }
 
 impl From<SkipDomainError> for Unanswered {
@@ -28,7 +29,7 @@ impl From<CompressedLdeError> for Unanswered {
 
 impl From<AllocError> for Unanswered {
     fn from(error: AllocError) -> Unanswered {
-        Unanswered::Failed(anyhow::Error::from(error))
+        Unanswered::OutOfMemory(error)
     }
 }
 
@@ -40,6 +41,6 @@ impl<T: Drop> From<AllocFailed<T>> for Unanswered {
 
 impl From<io::Error> for Unanswered {
     fn from(error: io::Error) -> Unanswered {
-        Unanswered::Failed(anyhow::Error::from(error))
+        Unanswered::Unwritten(error)
     }
 }
