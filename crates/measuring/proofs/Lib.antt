@@ -1,1 +1,2 @@
+pub mod Repetitions
 pub mod Turns

@@ -1,6 +1,6 @@
 // Values from a seeded generator (splitmix64).
-ghost use Rattle.std.specs.Prelude.{◌≡◌, ◌≢◌, ◌%◌, ◌^◌, IfOk, All, vec_len, vec_items};
-ghost use Rattle.measuring.specs.Splitmix.{next_state, mixed, low_bytes, Drawn, DrawnInTurn};
+ghost use Rattle.std.specs.Prelude.{◌≡◌, ◌≢◌, ℕ, ◌%◌, ◌^◌, ◌≤◌, IfOk, MatchResult, All, vec_len, vec_items};
+ghost use Rattle.measuring.specs.Splitmix.{next_state, mixed, state_after, low_bytes, Drawn, DrawnInTurn};
 
 use fields::tower::TowerLevel;
 use std::alloc::{AllocError, Global};
@@ -32,12 +32,14 @@ impl Generator {
         if x == F::zero() { F::one() } else { x }
     }
 
+    // Elements, each from a number. Where memory runs out, the numbers up to there are drawn.
     #[tactic(auto, using(crate::proofs::Turns::drawn_more))]
     pub fn elements<F: TowerLevel>(
         &mut self,
         heap: Global,
         count: usize,
     ) -> Result<Vec<F>, AllocError>
+        ensures state { MatchResult result (λ _. self.new.state ≡ state_after self.old.state count) (λ _. (n : ℕ) × (n ≤ count) × (self.new.state ≡ state_after self.old.state n)) }
         ensures count { IfOk result (λ v. vec_len v ≡ count) }
         ensures values { IfOk result (λ v. DrawnInTurn F.Field.ops F.TowerLevel.level self.old.state count v.items) }
         ensures nonzero { IfOk result (λ v. All (λ x. x ≢ F.Field.ops.zero) v.items) }
@@ -49,15 +51,16 @@ impl Generator {
         Ok(drawn)
     }
 
-    // Bytes, each the low bits of a number.
+    // Bytes, each the low bits of a number. Where memory runs out, the numbers up to there are drawn.
     pub fn bytes(&mut self, heap: Global, count: usize) -> Result<Vec<u8>, AllocError>
+        ensures state { MatchResult result (λ _. self.new.state ≡ state_after self.old.state count) (λ _. (n : ℕ) × (n ≤ count) × (self.new.state ≡ state_after self.old.state n)) }
         ensures count { IfOk result (λ v. vec_len v ≡ count) }
         ensures values { IfOk result (λ v. v.items ≡ low_bytes self.old.state count) }
     {
-        let mut drawn = Vec::new(heap);
+        let mut bytes = Vec::new(heap);
         for _ in 0..count {
-            drawn.push((self.number() % 256) as u8)?;
+            bytes.push((self.number() % 256) as u8)?;
         }
-        Ok(drawn)
+        Ok(bytes)
     }
 }

@@ -1,5 +1,5 @@
 // The time of repetitions, and the checksum of what they leave.
-ghost use Rattle.std.specs.Prelude.{◌≡◌, ◌<◌, ◌-◌, ◌*◌, ◌/◌, ◌^◌, ℕ, min, IfOk, OnOk};
+ghost use Rattle.std.specs.Prelude.{◌≡◌, true, ◌<◌, ◌-◌, ◌*◌, ◌/◌, ◌^◌, ℕ, min, IfOk, OnOk};
 ghost use Rattle.std.specs.Duration.{as_nanos};
 ghost use Rattle.measuring.specs.Repetitions.{Repeated};
 
@@ -14,6 +14,9 @@ pub trait Timed {
     // The checksum of what stands here, from the one before.
     ghost sum: { Self → ℕ → ℕ };
 
+    // How many operations a repetition does.
+    ghost operations: { Self → ℕ };
+
     // One repetition.
     fn repeat(&mut self) -> anyhow::Result<()>
         ensures { OnOk result (repeats self.old self.new) };
@@ -22,9 +25,17 @@ pub trait Timed {
     fn checksum(&self, so_far: u64) -> u64
         ensures { result ≡ sum self.now so_far };
 
+    // Whether a checksum hangs on what stands alone, and not on the one before. Then only the last is taken.
+    fn stands_alone(&self) -> bool
+        ensures { result ≡ true → (s : Self) (c d : ℕ) → sum s c ≡ sum s d }
+    {
+        false
+    }
+
     // How many operations a repetition does.
     fn operations(&self) -> u32
-        ensures { 0 < result };
+        ensures some { 0 < result }
+        ensures value { result ≡ operations self.now };
 }
 
 // The least time of a repetition, the checksum after the last, and how many operations a repetition does.
@@ -43,15 +54,19 @@ impl Outcome {
         clock: &impl Clock,
         repetitions: u32,
     ) -> anyhow::Result<Outcome>
-        ensures { IfOk result (λ o. Repeated T.repeats T.sum repetitions timed.old timed.new o.checksum) }
+        ensures checksum { IfOk result (λ o. Repeated T.repeats T.sum repetitions timed.old timed.new o.checksum) }
+        ensures operations { IfOk result (λ o. o.operations ≡ T.operations timed.new) }
     {
+        let last_alone = timed.stands_alone();
         let mut least = Duration::MAX;
         let mut checksum = 0;
-        for _ in 0..repetitions {
+        for i in 0..repetitions {
             let start = Instant::now(clock)?;
             timed.repeat()?;
             least = least.min(start.elapsed(clock)?);
-            checksum = timed.checksum(checksum);
+            if !last_alone || i + 1 == repetitions {
+                checksum = timed.checksum(checksum);
+            }
         }
         Ok(Outcome {
             least,

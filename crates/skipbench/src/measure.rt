@@ -1,5 +1,5 @@
 // What is timed: the construction of tables, and the extension of packed rows.
-ghost use Rattle.std.specs.Prelude.{◌≡◌, ◌/◌, ◌<◌, OnOk, fold, length};
+ghost use Rattle.std.specs.Prelude.{◌≡◌, ◌/◌, ◌<◌, OnOk, fold, length, vec_len};
 ghost use Rattle.measuring.specs.Checksum.{element_in};
 ghost use Rattle.skip_lde.specs.Tables.{Built, SumsEntriesOfRows};
 ghost use Rattle.skip_lde.specs.Rows.{transmitted, bytes_of_row};
@@ -42,9 +42,11 @@ struct Tables<F> {
 }
 
 impl<F: TowerLevel> Timed for Tables<F> {
-    ghost repeats = { λ s t. Built F.Field.ops F.TowerLevel.level s.dimensions.log_size s.dimensions.log_extended t.table.items };
+    ghost repeats = { λ s t. Built F.Field.ops F.TowerLevel.level s.dimensions.log_size s.dimensions.log_extended t.table.items × (t.dimensions ≡ s.dimensions) × (t.count ≡ s.count) × (vec_len t.table ≡ vec_len s.table) };
 
     ghost sum = { λ s _. fold (element_in F.TowerLevel.level) 0 s.table.items };
+
+    ghost operations = { λ s. s.count };
 
     fn repeat(&mut self) -> anyhow::Result<()> {
         for _ in 0..self.count {
@@ -55,6 +57,10 @@ impl<F: TowerLevel> Timed for Tables<F> {
 
     fn checksum(&self, _so_far: u64) -> u64 {
         checksum(0, self.table.as_slice())
+    }
+
+    fn stands_alone(&self) -> bool {
+        true
     }
 
     fn operations(&self) -> u32 {
@@ -72,9 +78,11 @@ struct Rows<F> {
 }
 
 impl<F: TowerLevel> Timed for Rows<F> {
-    ghost repeats = { λ s t. let d = s.lde.dimensions in SumsEntriesOfRows F.Field.ops (transmitted d.log_size d.log_extended) (bytes_of_row d.log_size) s.table.items s.rows.items (length s.rows.items / bytes_of_row d.log_size) t.out.items };
+    ghost repeats = { λ s t. let d = s.lde.dimensions in SumsEntriesOfRows F.Field.ops (transmitted d.log_size d.log_extended) (bytes_of_row d.log_size) s.table.items s.rows.items (length s.rows.items / bytes_of_row d.log_size) t.out.items × (t.lde ≡ s.lde) × (t.table ≡ s.table) × (t.rows ≡ s.rows) × (vec_len t.out ≡ vec_len s.out) };
 
     ghost sum = { λ s so_far. fold (element_in F.TowerLevel.level) so_far s.out.items };
+
+    ghost operations = { λ _. 4096 };
 
     fn repeat(&mut self) -> anyhow::Result<()> {
         self.lde.extend_batch(
