@@ -224,6 +224,7 @@ impl fmt::Display for Scratch {
 impl fmt::Display for Plan {
     ghost output = { λ p. Some (plan_text p) };
 
+    #[tactic(auto, using(std::proofs::lemmas::Grind::put_five))]
     fn fmt<W: fmt::Write>(&self, f: &mut fmt::Formatter<W>) -> fmt::Result {
         let (arity, degree) = (self.rule.arity(), self.rule.degree());
         writeln!(f, "  rule {}: operands {arity}, degree {degree}", self.rule)?;
