@@ -1,5 +1,5 @@
 // The time of a case, and a checksum of what it leaves.
-ghost use Rattle.std.specs.Prelude.{◌≡◌, ◌*◌, fold, vec_len};
+ghost use Rattle.std.specs.Prelude.{◌≡◌, fold, vec_len};
 ghost use Rattle.measuring.specs.Checksum.{element_in};
 ghost use Rattle.fieldbench.specs.Passes.{passes};
 
@@ -25,7 +25,6 @@ struct Passes<F, X, C> {
     values: Vec<F>,
     operands: Vec<X>,
     case: PhantomData<C>,
-    ghost full: { vec_len values ≡ 4096 },
     ghost paired: { vec_len operands ≡ vec_len values },
 }
 
@@ -33,8 +32,6 @@ impl<F: TowerLevel, X: TowerLevel, C: Case<F, X>> Timed for Passes<F, X, C> {
     ghost repeats = { λ s t. (t.values.items ≡ passes (λ xs. C.Case.after xs s.operands.items) 7 s.values.items) × (t.operands ≡ s.operands) };
 
     ghost sum = { λ s so_far. fold (element_in F.TowerLevel.level) so_far s.values.items };
-
-    ghost operations = { λ s. 7 * vec_len s.values };
 
     fn repeat(&mut self) -> anyhow::Result<()> {
         for _ in 0..PASSES {

@@ -14,9 +14,6 @@ pub trait Timed {
     // The checksum of what stands here, from the one before.
     ghost sum: { Self → ℕ → ℕ };
 
-    // How many operations a repetition does.
-    ghost operations: { Self → ℕ };
-
     // One repetition.
     fn repeat(&mut self) -> anyhow::Result<()>
         ensures { OnOk result (repeats self.old self.new) };
@@ -34,8 +31,7 @@ pub trait Timed {
 
     // How many operations a repetition does.
     fn operations(&self) -> u32
-        ensures some { 0 < result }
-        ensures value { result ≡ operations self.now };
+        ensures { 0 < result };
 }
 
 // The least time of a repetition, the checksum after the last, and how many operations a repetition does.
@@ -54,8 +50,7 @@ impl Outcome {
         clock: &impl Clock,
         repetitions: u32,
     ) -> anyhow::Result<Outcome>
-        ensures checksum { IfOk result (λ o. Repeated T.repeats T.sum repetitions timed.old timed.new o.checksum) }
-        ensures operations { IfOk result (λ o. o.operations ≡ T.operations timed.new) }
+        ensures { IfOk result (λ o. Repeated T.repeats T.sum repetitions timed.old timed.new o.checksum) }
     {
         let last_alone = timed.stands_alone();
         let mut least = Duration::MAX;

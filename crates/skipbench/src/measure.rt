@@ -46,8 +46,6 @@ impl<F: TowerLevel> Timed for Tables<F> {
 
     ghost sum = { λ s _. fold (element_in F.TowerLevel.level) 0 s.table.items };
 
-    ghost operations = { λ s. s.count };
-
     fn repeat(&mut self) -> anyhow::Result<()> {
         for _ in 0..self.count {
             build(self.dimensions, self.table.as_mut_slice())?;
@@ -81,8 +79,6 @@ impl<F: TowerLevel> Timed for Rows<F> {
     ghost repeats = { λ s t. let d = s.lde.dimensions in SumsEntriesOfRows F.Field.ops (transmitted d.log_size d.log_extended) (bytes_of_row d.log_size) s.table.items s.rows.items (length s.rows.items / bytes_of_row d.log_size) t.out.items × (t.lde ≡ s.lde) × (t.table ≡ s.table) × (t.rows ≡ s.rows) × (vec_len t.out ≡ vec_len s.out) };
 
     ghost sum = { λ s so_far. fold (element_in F.TowerLevel.level) so_far s.out.items };
-
-    ghost operations = { λ _. 4096 };
 
     fn repeat(&mut self) -> anyhow::Result<()> {
         self.lde.extend_batch(
