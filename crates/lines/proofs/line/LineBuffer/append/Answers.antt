@@ -1,4 +1,4 @@
-use Rattle.std.proofs.Common.{◌≤◌, ◌∷◌, ◌++◌, [], take, length, ap, ◌∙◌, arith, length-take}
+use Rattle.std.proofs.Common.{◌∷◌, ◌++◌, [], take, length, ap, ◌∙◌, arith, length-take}
 use Rattle.lines.proofs.Growth.{front_push}
 use Rattle.lines.proofs.line.LineBuffer.append.Goals as goal
 

@@ -1,10 +1,10 @@
-use Rattle.std.proofs.Common.{◌≡◌, ℕ, ◌+◌, ◌≤◌, not, List, ◌++◌, Some, None, length, take, sym, ap, ◌∙◌, subst, append_assoc, append-nil, arith}
+use Rattle.std.proofs.Common.{◌≡◌, not, ◌++◌, take, sym, ap, ◌∙◌, subst, append_assoc, append-nil, arith}
 use Rattle.std.proofs.lemmas.List.{take_more}
 use Rattle.std.proofs.lemmas.List.Sums.{prefix_len-drop_yes, prefix_len-drop_no, prefix_len-drop_all}
 use Rattle.std.proofs.lemmas.Bool.{eq-eqb, ne_eqb}
 use Rattle.std.specs.List.{position_or_len}
 use Rattle.words.specs.Pieces.{other}
-use Rattle.lines.specs.Lines.{is_lf, through_lf, EndsLine}
+use Rattle.lines.specs.Lines.{is_lf, EndsLine}
 use Rattle.lines.specs.Buffers.{Holds}
 use Rattle.lines.proofs.Cuts.{some_through, none_through, ends_line}
 use Rattle.lines.proofs.line.LineBuffer.feed.Goals as goal
