@@ -1,11 +1,25 @@
 // Points made from a few elements of the Cantor basis, computed once.
-ghost use Rattle.std.specs.Prelude.{◌≡◌, ℕ, ◌^◌, ◌<◌, ◌≤◌, length, slice_index_or};
+ghost use Rattle.std.specs.Prelude.{◌≡◌, ℕ, ◌^◌, ◌<◌, ◌≤◌, cond, length, slice_index_or};
+ghost use Rattle.fields.specs.Tower.{bit_set};
 ghost use Rattle.algebra.specs.Points.{basis_element_or_zero, point as cantor_point};
 
 use algebra::basis::basis_or_zero;
 use fields::field::Field;
 use fields::tower::TowerLevel;
 use std::array;
+
+// Adds an element where bit r of the index is set. Zero is added where it is clear, so that no branch
+// hangs on the bits.
+fn with_bit<F: Field>(sum: F, index: usize, r: usize, element: F) -> F
+    requires { r < 64 }
+    ensures { result ≡ F.Field.ops.sum sum (cond (bit_set index r) element F.Field.ops.zero) }
+{
+    if (index >> r) % 2 == 1 {
+        sum.sum(element)
+    } else {
+        sum.sum(F::zero())
+    }
+}
 
 // The first elements of the Cantor basis, at most sixteen.
 #[derive(Drop)]
@@ -30,9 +44,7 @@ impl<F: TowerLevel> Basis<'_, F> {
     {
         let mut point = F::zero();
         for (r, element) in self.elements.iter().enumerate() {
-            if index >> r & 1 == 1 {
-                point = point.sum(*element);
-            }
+            point = with_bit(point, index, r, *element);
         }
         point
     }

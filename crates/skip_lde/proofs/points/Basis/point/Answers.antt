@@ -1,29 +1,24 @@
-use Rattle.std.proofs.Common.{◌≡◌, length, sym, ap, ◌∙◌, arith}
+use Rattle.std.proofs.Common.{◌≡◌, ℕ, ◌+◌, cond, length, sym, ap, ◌∙◌, add-one, arith}
 use Rattle.std.proofs.lemmas.List.{get_or_read}
+use Rattle.fields.specs.Field.{Operations}
+use Rattle.fields.specs.Tower.{bit_set}
 use Rattle.algebra.specs.Points.{basis_element_or_zero}
 use Rattle.algebra.specs.Sums.{bit_sum}
-use Rattle.algebra.proofs.BitSums.{bit_sum_set, bit_sum_clear}
 use Rattle.algebra.proofs.Points.{point_bits}
 use Rattle.skip_lde.proofs.points.Basis.point.Goals as goal
-use Rattle.skip_lde.proofs.points.Basis.point.Goals.{then-index-r-eq1, else-index-r-eq1}
+
+-- one bit more
+more : {F : Type 0} (o : Operations F) (v : ℕ → F) (j r : ℕ) (s t x : F) → s ≡ bit_sum o r v j → x ≡ v r → t ≡ o.sum s (cond (bit_set j r) x o.zero) →
+    t ≡ bit_sum o (r + 1) v j
+more o v j r s t x p e q = q ∙ ap (λ y. o.sum s (cond (bit_set j r) y o.zero)) e ∙ ap (λ y. o.sum y (cond (bit_set j r) (v r) o.zero)) p ∙ ap (λ n. bit_sum o n v j) (sym (add-one r))
 
 pub loop-r-preserved : goal.loop-r-preserved
 loop-r-preserved g c =
     let o = g.F.Field.ops in
-    let L = g.met.F.Field.laws in
     let v = basis_element_or_zero o g.F.TowerLevel.level in
     let r = c.loop-r.r in
-    let before = c.loop-r.invariant in
-    elim c.if-index-r-eq1.branch [
-      | then-index-r-eq1 w ↦
-          let read = c.element-item.is in
-          let held : c.element-item.result ≡ v r = get_or_read _ _ _ c.loop-r-test.true read o.zero ∙ c.args.self.now.first r c.loop-r-test.true in
-          let more = bit_sum_set L r v c.args.index w.if-index-r-eq1.true in
-          let is = w.point-is in
-          let sum = w.sum-point.ensures in
-          cc
-      | else-index-r-eq1 w ↦ w.point-is ∙ before ∙ sym (bit_sum_clear L r v c.args.index w.if-index-r-eq1.false)
-    ]
+    let held : c.element-item.result ≡ v r = get_or_read _ _ _ c.loop-r-test.true c.element-item.is o.zero ∙ c.args.self.now.first r c.loop-r-test.true in
+    more o v c.args.index r c.loop-r.point _ _ c.loop-r.invariant held c.with_bit-point.ensures
 
 pub returns : goal.returns
 returns g c =
