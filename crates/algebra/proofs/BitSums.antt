@@ -2,7 +2,7 @@
 use Rattle.std.proofs.Common.{◌≡◌, ℕ, zero, suc, ◌+◌, ◌-◌, ◌/◌, ◌%◌, ◌^◌, ◌<◌, ◌≤◌, Bool, true, false, cond, eqb, [], ◌∷◌, ◌++◌, filter, fold, ◌≢◌, sym, refl, ap, ◌∙◌, ap₂, lt_of_lt_of_le, add-one, arith, pow_mono}
 use Rattle.std.specs.List.{range_with_len}
 use Rattle.std.proofs.lemmas.List.{map-id}
-use Rattle.std.proofs.lemmas.List.FromFn.{filter_of_map_range_with_len_more}
+use Rattle.std.proofs.lemmas.List.FromFn.{map-range_with_len_more, filter_of_map_range_with_len_more}
 use Rattle.std.proofs.lemmas.List.Sums.{fold-append}
 use native.Mathlib.Nat.{zero-div, div-eq_of_lt}
 use lib.Bits.{bit_and, bit_xor, differ, and_mask}
@@ -61,6 +61,15 @@ module _ {F : Type 0} {o : Operations F} (L : FieldLaws o) where
       ap (λ m. fold (λ s r. s ⊕ v r) z (filter tested (range_with_len 0 m))) (sym (add-one n)) ∙ ap (fold (λ s r. s ⊕ v r) z) last
       ∙ fold-append (λ s r. s ⊕ v r) z below (cond (tested n) (n ∷ []) []) ∙ one_bit (tested n) n v _
       ∙ ap₂ (λ x w. x ⊕ cond (eqb w 1) (v n) 𝟘) (bit_sum_fold n v j z e) (and_mask (j / 2 ^ n) 1)
+
+  -- where zero is added for a clear bit
+  pub bit_sum_added : (n : ℕ) (v : ℕ → F) (j : ℕ) (z : F) → z ≡ 𝟘 → fold (λ s r. s ⊕ cond (bit_set j r) (v r) 𝟘) z (range_with_len 0 n) ≡ bit_sum o n v j
+  bit_sum_added zero v j z e = e
+  bit_sum_added (suc n) v j z e =
+      let add = λ (s : F) (r : ℕ). s ⊕ cond (bit_set j r) (v r) 𝟘 in
+      let last : range_with_len 0 (n + 1) ≡ range_with_len 0 n ++ n ∷ [] = simp map-id at (map-range_with_len_more (λ r. r) 0 n n (omega arith)) in
+      ap (λ m. fold add z (range_with_len 0 m)) (sym (add-one n)) ∙ ap (fold add z) last ∙ fold-append add z (range_with_len 0 n) (n ∷ [])
+      ∙ ap (λ s. s ⊕ cond (bit_set j n) (v n) 𝟘) (bit_sum_added n v j z e)
 
   -- one more place, as a loop over the bits adds it: after the test of a set bit, and of a clear one
   pub bit_sum_set : (r : ℕ) (v : ℕ → F) (j : ℕ) → bit_and (j / 2 ^ r) 1 ≡ 1 → bit_sum o (r + 1) v j ≡ bit_sum o r v j ⊕ v r

@@ -13,10 +13,8 @@ fn double_points<F: Field>(buffer: &mut [F], half: usize, step: F)
     ensures shifted { (k : ℕ) → k < half → slice_index_or buffer.new (half + k) F.Field.ops.zero ≡ F.Field.ops.sum (slice_index_or buffer.old k F.Field.ops.zero) step }
 {
     let (points, rest) = buffer.split_at_mut(half);
-    let shifted = &mut rest[..half];
-    shifted.copy_from_slice(points);
-    for point in shifted.iter_mut() {
-        *point = point.sum(step);
+    for (i, point) in rest[..half].iter_mut().enumerate() {
+        *point = points[i].sum(step);
     }
 }
 

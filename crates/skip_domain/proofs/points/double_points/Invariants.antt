@@ -1,7 +1,5 @@
-use Rattle.std.proofs.Common.{◌≡◌, ℕ, ◌<◌, ◌≤◌, get_or}
+use Rattle.std.proofs.Common.{◌≡◌, ℕ, ◌<◌, get_or}
 use Rattle.skip_domain.proofs.points.double_points.Given as goal
 
-abbrev pub invariant-loop-point : goal.invariant-loop-point
-invariant-loop-point g l =
-    ((k : ℕ) → k < l.point-index → get_or l.shifted k g.F.Field.ops.zero ≡ g.F.Field.ops.sum (get_or l.initial.shifted k g.F.Field.ops.zero) l.step)
-    × ((k : ℕ) → l.point-index ≤ k → get_or l.shifted k g.F.Field.ops.zero ≡ get_or l.initial.shifted k g.F.Field.ops.zero)
+abbrev pub invariant-loop-i : goal.invariant-loop-i
+invariant-loop-i g l = (k : ℕ) → k < l.i → get_or l.point-items k g.F.Field.ops.zero ≡ g.F.Field.ops.sum (get_or l.points k g.F.Field.ops.zero) l.step
