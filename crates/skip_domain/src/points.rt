@@ -12,9 +12,8 @@ fn double_points<F: Field>(buffer: &mut [F], half: usize, step: F)
     ensures kept { (k : ℕ) → k < half → slice_index_or buffer.new k F.Field.ops.zero ≡ slice_index_or buffer.old k F.Field.ops.zero }
     ensures shifted { (k : ℕ) → k < half → slice_index_or buffer.new (half + k) F.Field.ops.zero ≡ F.Field.ops.sum (slice_index_or buffer.old k F.Field.ops.zero) step }
 {
-    let (points, rest) = buffer.split_at_mut(half);
-    for (i, point) in rest[..half].iter_mut().enumerate() {
-        *point = points[i].sum(step);
+    for j in 0..half {
+        buffer[half + j] = buffer[j].sum(step);
     }
 }
 
