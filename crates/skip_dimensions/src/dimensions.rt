@@ -1,12 +1,10 @@
 // The numbers of a domain.
 ghost use Rattle.std.specs.Prelude.{◌≡◌, ◌-◌, ◌*◌, ◌/◌, ◌^◌, ◌<◌, ◌≤◌, min, true, IfOk, Some};
-ghost use Rattle.fields.specs.Tower.{width};
 ghost use Rattle.skip_dimensions.specs.Degrees.{dimensions, admits, Fits};
 ghost use Rattle.skip_dimensions.specs.Refusals.{reported, limit, construction, construction_for};
 
 use crate::degree;
 use crate::fault::SkipDomainError;
-use fields::tower::TowerLevel;
 
 // The dimensions of the skipped subspace and of the extension, within their limits.
 #[derive(Clone, Copy, PartialEq, Eq, Debug)]
@@ -87,32 +85,6 @@ impl Dimensions {
         };
         let log_extended = degree::dimensions_for_degree(log_size, degree).ok_or(empty)?;
         Dimensions::new(log_bits, log_size, log_extended)
-    }
-
-    // The dimensions of a domain over the field F, which has a basis element for each of them.
-    #[tactic(auto, using(crate::proofs::Widths::limit_cut, crate::proofs::Widths::construction_cut))]
-    pub fn over<F: TowerLevel>(
-        log_size: usize,
-        log_extended: usize,
-    ) -> Result<Dimensions, SkipDomainError>
-        ensures refused { reported result ≡ construction F.TowerLevel.level.log_bits log_size log_extended }
-        ensures dimensions { IfOk result (λ d. (d.log_size ≡ log_size) × (d.log_extended ≡ log_extended)) }
-        ensures fits_field { IfOk result (λ d. d.log_extended ≤ width F.TowerLevel.level) }
-    {
-        Dimensions::new(F::log_bits() as u32, log_size, log_extended)
-    }
-
-    // The smallest domain over the field F that carries a rule of that degree.
-    #[tactic(auto, using(crate::proofs::Widths::limit_cut, crate::proofs::Widths::construction_for_cut))]
-    pub fn over_for_degree<F: TowerLevel>(
-        log_size: usize,
-        degree: usize,
-    ) -> Result<Dimensions, SkipDomainError>
-        ensures refused { reported result ≡ construction_for F.TowerLevel.level.log_bits log_size degree }
-        ensures dimensions { IfOk result (λ d. (d.log_size ≡ log_size) × (Some d.log_extended ≡ dimensions log_size degree)) }
-        ensures fits_field { IfOk result (λ d. d.log_extended ≤ width F.TowerLevel.level) }
-    {
-        Dimensions::for_degree(F::log_bits() as u32, log_size, degree)
     }
 
     // Whether the domain is wide enough for a rule of that degree. A degree that is admitted fits.

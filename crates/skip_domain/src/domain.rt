@@ -13,6 +13,7 @@ use crate::points::fill_points;
 use crate::vanishing::{fill_block, vanishing_poly};
 use algebra::basis::{self, basis_or_zero};
 use algebra::points_add;
+use field_dimensions::over::{dimensions_over, dimensions_over_for_degree};
 use fields::field::Field;
 use fields::tower::TowerLevel;
 use skip_dimensions::degree;
@@ -72,7 +73,7 @@ impl<F: TowerLevel> SkipDomain<F> {
         ensures points { MatchResult result (λ _. points.new ≡ points_of F.Field.ops F.TowerLevel.level log_extended) (λ _. points.new ≡ points.old) }
         ensures different { IfOk result (λ d. Apart (2 ^ d.dimensions.log_extended) (cantor_point F.Field.ops F.TowerLevel.level)) }
     {
-        let dimensions = Dimensions::over::<F>(log_size, log_extended)?;
+        let dimensions = dimensions_over::<F>(log_size, log_extended)?;
         SkipDomain::build(dimensions, points)
     }
 
@@ -87,7 +88,7 @@ impl<F: TowerLevel> SkipDomain<F> {
         ensures points { MatchResult result (λ d. points.new ≡ points_of F.Field.ops F.TowerLevel.level d.dimensions.log_extended) (λ _. points.new ≡ points.old) }
         ensures different { IfOk result (λ d. Apart (2 ^ d.dimensions.log_extended) (cantor_point F.Field.ops F.TowerLevel.level)) }
     {
-        let dimensions = Dimensions::over_for_degree::<F>(log_size, degree)?;
+        let dimensions = dimensions_over_for_degree::<F>(log_size, degree)?;
         SkipDomain::build(dimensions, points)
     }
 

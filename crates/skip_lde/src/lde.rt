@@ -8,6 +8,7 @@ use crate::blocks::Table;
 use crate::fault::CompressedLdeError;
 use crate::lengths::{check_buffers, count_rows};
 use crate::table::fill_table;
+use field_dimensions::over::dimensions_over;
 use fields::field::Field;
 use fields::tower::TowerLevel;
 use skip_dimensions::dimensions::Dimensions;
@@ -35,7 +36,7 @@ impl<F: TowerLevel> CompressedLde<F> {
         ensures dimensions { IfOk result (λ l. (l.dimensions.log_size ≡ log_size) × (l.dimensions.log_extended ≡ log_extended)) }
         ensures table { MatchResult result (λ _. Built F.Field.ops F.TowerLevel.level log_size log_extended table.new) (λ _. table.new ≡ table.old) }
     {
-        let dimensions = Dimensions::over::<F>(log_size, log_extended)?;
+        let dimensions = dimensions_over::<F>(log_size, log_extended)?;
         check_length::<CompressedLdeError>(2, dimensions.table_len(), table.len())?;
         fill_table(dimensions, table);
         Ok(CompressedLde {

@@ -4,6 +4,7 @@ ghost use Rattle.measuring.specs.Checksum.{element_in};
 ghost use Rattle.skip_lde.specs.Tables.{Built, SumsEntriesOfRows};
 ghost use Rattle.skip_lde.specs.Rows.{transmitted, bytes_of_row};
 
+use field_dimensions::over::dimensions_over;
 use fields::tower::TowerLevel;
 use measuring::checksum::checksum;
 use measuring::generator::Generator;
@@ -109,7 +110,7 @@ pub(crate) fn measure_table<F: TowerLevel + Clone>(
 ) -> anyhow::Result<()>
     requires { 0 < count }
 {
-    let dimensions = Dimensions::over::<F>(log_size, log_extended)?;
+    let dimensions = dimensions_over::<F>(log_size, log_extended)?;
     let mut tables = Tables {
         dimensions,
         table: table_room::<F>(rt.alloc(), dimensions)?,
@@ -126,7 +127,7 @@ pub(crate) fn measure_rows<F: TowerLevel + Clone>(
     log_extended: usize,
     repetitions: u32,
 ) -> anyhow::Result<()> {
-    let dimensions = Dimensions::over::<F>(log_size, log_extended)?;
+    let dimensions = dimensions_over::<F>(log_size, log_extended)?;
     let mut table = table_room::<F>(rt.alloc(), dimensions)?;
     let lde = build(dimensions, table.as_mut_slice())?;
     let count = ROWS as usize;

@@ -1,11 +1,11 @@
 // A domain that is open, over one of the fields.
 use crate::fault::Fault;
 use extension_requests::request::{Domain, FieldName};
+use field_dimensions::over::dimensions_over;
 use fields::byte::Byte;
 use fields::text::Hexadecimal;
 use fields::tower::TowerLevel;
 use fields::{Pair16, Pair32, Pile4};
-use skip_dimensions::dimensions::Dimensions;
 use skip_lde::fault::CompressedLdeError;
 use skip_lde::lde::CompressedLde;
 use std::alloc::Global;
@@ -21,7 +21,7 @@ pub(crate) struct Extension<F> {
 
 impl<F: TowerLevel + Clone> Extension<F> {
     fn new(heap: Global, log_size: usize, log_extended: usize) -> Result<Extension<F>, Fault> {
-        let dimensions = Dimensions::over::<F>(log_size, log_extended)?;
+        let dimensions = dimensions_over::<F>(log_size, log_extended)?;
         let mut table = vec![in heap; F::zero(); dimensions.table_len()]?;
         let values = vec![in heap; F::zero(); dimensions.num_transmitted()]?;
         let lde = CompressedLde::from_dimensions(dimensions, table.as_mut_slice())?;

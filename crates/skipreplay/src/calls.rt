@@ -3,6 +3,7 @@
 use crate::print::{Elements, Refused};
 use crate::question::{Call, Numbers, Question};
 use crate::unanswered::Unanswered;
+use field_dimensions::over::dimensions_over;
 use fields::extension::ExtensionField;
 use fields::field::Field;
 use fields::text::Hexadecimal;
@@ -11,7 +12,6 @@ use skip_composition::composition::Composition;
 use skip_composition::conjunction::Conjunction;
 use skip_composition::square_product::SquareProduct;
 use skip_dimensions::degree::extra_dimensions;
-use skip_dimensions::dimensions::Dimensions;
 use skip_dimensions::fault::SkipDomainError;
 use skip_domain::domain::SkipDomain;
 use skip_lde::fault::CompressedLdeError;
@@ -78,7 +78,7 @@ impl Question<'_> {
         log_size: usize,
         log_extended: usize,
     ) -> Result<SkipDomain<F>, Unanswered> {
-        let dimensions = Dimensions::over::<F>(log_size, log_extended)?;
+        let dimensions = dimensions_over::<F>(log_size, log_extended)?;
         let mut points = self.lent::<F>(dimensions.extended_size())?;
         Ok(SkipDomain::new(log_size, log_extended, points.as_mut_slice())?)
     }
@@ -147,7 +147,7 @@ impl Question<'_> {
         E: FnOnce(&CompressedLde<F>, &[F], &[u8], &mut [F]) -> Result<(), CompressedLdeError>,
         requires { E.IsAlwaysCallable extend }
     {
-        let dimensions = Dimensions::over::<F>(n.first, n.second)?;
+        let dimensions = dimensions_over::<F>(n.first, n.second)?;
         let mut table = self.lent::<F>(dimensions.table_len())?;
         let lde = CompressedLde::from_dimensions(dimensions, table.as_mut_slice())?;
         Ok(extend(&lde, table.as_slice(), rows, output)?)
