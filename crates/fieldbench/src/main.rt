@@ -11,6 +11,7 @@ use fields::extension::{Here, Up};
 use fields::{Pair16, Pair64};
 use measure::measure;
 use measuring::arguments::repetitions;
+use std::env;
 
 const DEFAULT_REPETITIONS: u32 = 4;
 
@@ -33,7 +34,7 @@ fn measure_solutions(rt: &HostRuntime, repetitions: u32) -> anyhow::Result<()> {
 }
 
 fn run(rt: &HostRuntime) -> anyhow::Result<()> {
-    let repetitions = repetitions(rt, DEFAULT_REPETITIONS)?;
+    let repetitions = repetitions(env::args(rt)?.nth(1).as_deref(), DEFAULT_REPETITIONS)?;
     measure_products(rt, repetitions)?;
     measure_solutions(rt, repetitions)
 }

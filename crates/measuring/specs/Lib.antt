@@ -1,3 +1,4 @@
+pub mod Arguments
 pub mod Checksum
 pub mod Repetitions
 pub mod Splitmix

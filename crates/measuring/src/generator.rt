@@ -1,9 +1,8 @@
 // Values from a seeded generator (splitmix64).
-ghost use Rattle.std.specs.Prelude.{◌≡◌, ◌≢◌, ℕ, ◌%◌, ◌^◌, ◌≤◌, IfOk, MatchResult, All, vec_len, vec_items};
+ghost use Rattle.std.specs.Prelude.{◌≡◌, ◌≢◌, ◌%◌, ◌^◌, All, length};
 ghost use Rattle.measuring.specs.Splitmix.{next_state, mixed, state_after, low_bytes, Drawn, DrawnInTurn};
 
 use fields::tower::TowerLevel;
-use std::alloc::{AllocError, Global};
 
 #[derive(Drop)]
 pub struct Generator {
@@ -32,35 +31,26 @@ impl Generator {
         if x == F::zero() { F::one() } else { x }
     }
 
-    // Elements, each from a number. Where memory runs out, the numbers up to there are drawn.
-    #[tactic(auto, using(crate::proofs::Turns::drawn_more))]
-    pub fn elements<F: TowerLevel>(
-        &mut self,
-        heap: Global,
-        count: usize,
-    ) -> Result<Vec<F>, AllocError>
-        ensures state { MatchResult result (λ _. self.new.state ≡ state_after self.old.state count) (λ _. (n : ℕ) × (n ≤ count) × (self.new.state ≡ state_after self.old.state n)) }
-        ensures count { IfOk result (λ v. vec_len v ≡ count) }
-        ensures values { IfOk result (λ v. DrawnInTurn F.Field.ops F.TowerLevel.level self.old.state count v.items) }
-        ensures nonzero { IfOk result (λ v. All (λ x. x ≢ F.Field.ops.zero) v.items) }
+    // Fills the buffer with elements, each from a number.
+    #[tactic(auto, using(crate::proofs::Turns::one_later, crate::proofs::Turns::drawn_more, crate::proofs::Turns::nonzero_more))]
+    pub fn fill_elements<F: TowerLevel>(&mut self, drawn: &mut [F])
+        ensures state { self.new.state ≡ state_after self.old.state (length drawn.old) }
+        ensures values { DrawnInTurn F.Field.ops F.TowerLevel.level self.old.state (length drawn.old) drawn.new }
+        ensures nonzero { All (λ x. x ≢ F.Field.ops.zero) drawn.new }
     {
-        let mut drawn = Vec::new(heap);
-        for _ in 0..count {
-            drawn.push(self.element::<F>())?;
+        for x in drawn.iter_mut() {
+            *x = self.element();
         }
-        Ok(drawn)
     }
 
-    // Bytes, each the low bits of a number. Where memory runs out, the numbers up to there are drawn.
-    pub fn bytes(&mut self, heap: Global, count: usize) -> Result<Vec<u8>, AllocError>
-        ensures state { MatchResult result (λ _. self.new.state ≡ state_after self.old.state count) (λ _. (n : ℕ) × (n ≤ count) × (self.new.state ≡ state_after self.old.state n)) }
-        ensures count { IfOk result (λ v. vec_len v ≡ count) }
-        ensures values { IfOk result (λ v. v.items ≡ low_bytes self.old.state count) }
+    // Fills the buffer with bytes, each the low bits of a number.
+    #[tactic(auto, using(crate::proofs::Turns::one_later, crate::proofs::Turns::byte_more))]
+    pub fn fill_bytes(&mut self, drawn: &mut [u8])
+        ensures state { self.new.state ≡ state_after self.old.state (length drawn.old) }
+        ensures values { drawn.new ≡ low_bytes self.old.state (length drawn.old) }
     {
-        let mut bytes = Vec::new(heap);
-        for _ in 0..count {
-            bytes.push((self.number() % 256) as u8)?;
+        for byte in drawn.iter_mut() {
+            *byte = (self.number() % 256) as u8;
         }
-        Ok(bytes)
     }
 }

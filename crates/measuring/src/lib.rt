@@ -4,6 +4,4 @@
 pub mod arguments;
 pub mod checksum;
 pub mod generator;
-#[cfg(test)]
-mod tests;
 pub mod timing;

@@ -8,6 +8,7 @@ use fields::Pair16;
 use fields::byte::Byte;
 use measure::{measure_rows, measure_table};
 use measuring::arguments::repetitions;
+use std::env;
 
 const DEFAULT_REPETITIONS: u32 = 1;
 
@@ -15,7 +16,7 @@ const DEFAULT_REPETITIONS: u32 = 1;
 const TABLES: u32 = 32;
 
 fn run(rt: &HostRuntime) -> anyhow::Result<()> {
-    let repetitions = repetitions(rt, DEFAULT_REPETITIONS)?;
+    let repetitions = repetitions(env::args(rt)?.nth(1).as_deref(), DEFAULT_REPETITIONS)?;
     measure_rows::<Byte>(rt, "rows 6 7", 6, 7, repetitions)?;
     measure_rows::<Byte>(rt, "rows 7 8", 7, 8, repetitions)?;
     measure_table::<Byte>(rt, "table 6 7", 6, 7, TABLES, repetitions)?;

@@ -1,6 +1,7 @@
 // What is timed: the construction of tables, and the extension of packed rows.
-ghost use Rattle.std.specs.Prelude.{◌≡◌, ◌/◌, ◌<◌, OnOk, fold, length, vec_len};
+ghost use Rattle.std.specs.Prelude.{◌≡◌, ◌/◌, ◌<◌, OnOk, IfOk, MatchResult, fold, length, vec_len};
 ghost use Rattle.measuring.specs.Checksum.{element_in};
+ghost use Rattle.measuring.specs.Splitmix.{state_after, low_bytes};
 ghost use Rattle.skip_lde.specs.Tables.{Built, SumsEntriesOfRows};
 ghost use Rattle.skip_lde.specs.Rows.{transmitted, bytes_of_row};
 
@@ -11,12 +12,23 @@ use measuring::generator::Generator;
 use measuring::timing::{Outcome, Timed};
 use skip_dimensions::dimensions::Dimensions;
 use skip_lde::lde::CompressedLde;
-use std::alloc::Global;
+use std::alloc::{AllocError, Global};
 
 const SEED: u64 = 2024;
 
 // Rows that one call extends.
 const ROWS: u32 = 4096;
+
+// Bytes, each the low bits of a number of the generator. Where memory runs out, none is drawn.
+fn bytes(source: &mut Generator, heap: Global, count: usize) -> Result<Vec<u8>, AllocError>
+    ensures state { MatchResult result (λ _. source.new.state ≡ state_after source.old.state count) (λ _. source.new.state ≡ source.old.state) }
+    ensures count { IfOk result (λ v. vec_len v ≡ count) }
+    ensures values { IfOk result (λ v. v.items ≡ low_bytes source.old.state count) }
+{
+    let mut drawn = vec![in heap; 0; count]?;
+    source.fill_bytes(drawn.as_mut_slice());
+    Ok(drawn)
+}
 
 // Room for the table of a domain.
 fn table_room<F: TowerLevel + Clone>(
@@ -131,7 +143,12 @@ pub(crate) fn measure_rows<F: TowerLevel + Clone>(
     let mut table = table_room::<F>(rt.alloc(), dimensions)?;
     let lde = build(dimensions, table.as_mut_slice())?;
     let count = ROWS as usize;
-    let rows = Generator { state: SEED }.bytes(rt.alloc(), count.saturating_mul(lde.num_chunks()))?;
+    let mut source = Generator { state: SEED };
+    let rows = bytes(
+        &mut source,
+        rt.alloc(),
+        count.saturating_mul(lde.num_chunks()),
+    )?;
     let out = vec![in rt.alloc(); F::zero(); count.saturating_mul(lde.num_transmitted())]?;
     let mut extension = Rows {
         lde,

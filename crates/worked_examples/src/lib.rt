@@ -7,6 +7,8 @@ mod dimensions;
 #[cfg(test)]
 mod domain;
 #[cfg(test)]
+mod generator;
+#[cfg(test)]
 mod rule;
 #[cfg(test)]
 mod text;
