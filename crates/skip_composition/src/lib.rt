@@ -8,3 +8,4 @@ pub mod monomial_sum;
 mod operand;
 pub mod rule;
 pub mod square_product;
+pub mod sum_composition;

@@ -6,7 +6,7 @@ ghost use Rattle.skip_composition.specs.Polynomials.{Monomials, operands, value,
 use fields::field::Field;
 
 // A polynomial whose coefficients are all one, so that it is given by its monomials and computed
-// alike over every field. A type that is one gives its `Composition` from it.
+// alike over every field. `SumComposition` makes a composition of any; a type may also give its own.
 pub trait MonomialSum {
     ghost monomials: { Self → Monomials };
 
@@ -21,4 +21,24 @@ pub trait MonomialSum {
     // The value over any field; a missing operand reads as zero.
     fn value<E: Field>(&self, values: &[E]) -> E
         ensures { result ≡ value E.Field.ops (with_ones E.Field.ops (monomials self.now)) (operands E.Field.ops values.now) };
+}
+
+// A sum that is lent.
+#[derive(Clone, Copy, PartialEq, Eq, Debug)]
+pub struct LentSum<'a, S>(pub &'a S);
+
+impl<S: MonomialSum> MonomialSum for LentSum<'_, S> {
+    ghost monomials = { λ s. S.MonomialSum.monomials s.0.now };
+
+    fn arity(&self) -> u16 {
+        self.0.arity()
+    }
+
+    fn degree(&self) -> u16 {
+        self.0.degree()
+    }
+
+    fn value<E: Field>(&self, values: &[E]) -> E {
+        self.0.value(values)
+    }
 }

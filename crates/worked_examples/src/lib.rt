@@ -11,4 +11,6 @@ mod generator;
 #[cfg(test)]
 mod rule;
 #[cfg(test)]
+mod sum;
+#[cfg(test)]
 mod text;
