@@ -1,6 +1,6 @@
 -- Filling a buffer: the points by doubling, and the values of the vanishing polynomial block by block.
 use Rattle.std.proofs.Common.{◌≡◌, ℕ, suc, ◌+◌, ◌-◌, ◌*◌, ◌/◌, ◌^◌, ◌<◌, ◌≤◌, ◌≢◌, List, length, get_or, set, refl, sym, ap, ◌∙◌, ap₂, inl, inr, mul-le-mul_right, suc-mul, add-one, arith, get_or-set_other, get_or-set_same, pow_pos, pow_mono, pow-add, below_more}
-use native.Mathlib.Nat.{two-pow-succ, mul-div_cancel}
+use native.Mathlib.Nat.{two-pow-succ, mul-div_cancel, div-mul-le_self}
 use lib.Bits.{xor_shifted}
 use Rattle.std.proofs.lemmas.Bool.{cases_lt}
 use Rattle.fields.specs.Field.{Operations, FieldLaws}
@@ -42,6 +42,14 @@ pub blocks_divide : (s e z : ℕ) → s ≤ e → z ≡ 2 ^ s → (2 ^ e - 2 ^ s
 blocks_divide s e z l w =
     let rest = sym (blocks_fill s e (2 ^ (e - s)) l refl) in
     ap₂ (λ (n k : ℕ). n / k * k) rest w ∙ ap (λ (n : ℕ). n * 2 ^ s) (mul-div_cancel (2 ^ (e - s) - 1) (pow_pos s)) ∙ sym rest
+
+-- and each lies within them
+pub block_divides : (n z b : ℕ) → 0 < z → b < n / z → b * z + z ≤ n
+block_divides n z b p h =
+    let up : suc b * z ≤ n / z * z = mul-le-mul_right z h in
+    let next = suc-mul b z in
+    let all : n / z * z ≤ n = div-mul-le_self n z in
+    omega arith
 
 -- one element more of a block
 pub block_more : {F : Type 0} (xs es : List F) (a i : ℕ) (v d : F) → a + i < length xs

@@ -12,6 +12,7 @@ use Rattle.fields.specs.Tower.{Level, LevelLaws, width, phi, cantor}
 use Rattle.fields.specs.Fields.{same_or_not}
 use Rattle.fields.specs.Levels.{phi_zero}
 use Rattle.algebra.specs.Points.{basis_element_or_zero, point, phi_power, vanishing, nonzero_product}
+use Rattle.algebra.specs.Theorems.{Vanishes}
 use Rattle.algebra.proofs.BitSums.{bit_sum_power}
 use Rattle.algebra.proofs.NonzeroProducts.{nonzero_product_one}
 use Rattle.algebra.proofs.Points.{basis_none, point_bits}
@@ -19,6 +20,10 @@ use Rattle.algebra.proofs.Products.{product_same, product_halves}
 use Rattle.algebra.proofs.Spans.{points_spanned, spanned_injective, spanned_top, vanishing_zero_at, vanishing_zero_only, vanishing_is_phi_power, phi_power_top}
 use Rattle.skip_domain.specs.Domains.{Room, ZeroExactlyOn}
 use Rattle.skip_domain.proofs.Places.{none_left_out}
+
+-- where a polynomial is known to vanish at those points alone
+pub vanishes_exactly_on : {F : Type 0} {o : Operations F} {t : ℕ → F} {k : ℕ} {x r : F} → Vanishes o t k → r ≡ vanishing o (2 ^ k) t x → ZeroExactlyOn o (2 ^ k) t x r
+vanishes_exactly_on {o = o} {t} {k} {x} v e = record { there = λ j h q. e ∙ ap (vanishing o (2 ^ k) t) q ∙ v.at_points j h; only_there = λ z. v.only_there x (sym e ∙ z) }
 
 module _ {F : Type 0} {o : Operations F} {l : Level F} (L : FieldLaws o) (V : LevelLaws o l) where
   open o use {zero as 𝟘, one as 𝟙, sum as ◌⊕◌, product as ◌⊗◌}
